@@ -1,0 +1,4 @@
+pub mod Rate
+pub mod Size
+pub mod Starred
+mod Examples

@@ -1,0 +1,5 @@
+pub mod Exact
+pub mod Values
+pub mod Limits
+pub mod Fold
+pub mod Refusal

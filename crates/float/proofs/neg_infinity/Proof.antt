@@ -1,0 +1,16 @@
+-- `float::neg_infinity` meets its contract: antt reads the bits. Assumes nothing.
+use mathlib.Core.Path.{refl}
+use lib.Ieee.{nanBits, ofBits}
+use Rattle.float.proofs.neg_infinity.Statement.{statement}
+use Rattle.float.proofs.neg_infinity.Tie as tie
+
+float-from-bits-result : tie.Need-float-from-bits-result
+unfolding nanBits
+float-from-bits-result c = tt
+
+returns : tie.Need-returns
+unfolding ofBits
+returns c = refl
+
+pub neg-infinity-spec : {M : Type 1} → statement M
+neg-infinity-spec = tie.close (tie.spec float-from-bits-result returns)

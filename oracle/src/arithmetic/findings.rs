@@ -1,0 +1,90 @@
+//! What the published Rust does where document 01 refuses, counted by operation and reason.
+
+use std::collections::BTreeMap;
+use std::fmt;
+
+use crate::operations::{find, Kind, Operands, Operation};
+
+#[derive(Default)]
+pub struct Findings {
+    refused: BTreeMap<(u8, &'static str), Refused>,
+    faults: Vec<String>,
+}
+
+/// The lines of one operation that are refused for one reason.
+#[derive(Default)]
+struct Refused {
+    panics: usize,
+    answers: usize,
+    smallest: Option<(Operands, u64)>,
+}
+
+impl Findings {
+    /// A refused call, with the answer of the Rust or None for a panic.
+    pub fn refused(
+        &mut self,
+        operation: &Operation,
+        reason: &'static str,
+        operands: Operands,
+        answer: Option<u64>,
+    ) {
+        let refused = self.refused.entry((operation.number, reason)).or_default();
+        let Some(answer) = answer else {
+            refused.panics += 1;
+            return;
+        };
+        refused.answers += 1;
+        let smaller = refused.smallest.is_none_or(|(least, _)| {
+            magnitudes(operation.kinds, operands) < magnitudes(operation.kinds, least)
+        });
+        if smaller {
+            refused.smallest = Some((operands, answer));
+        }
+    }
+
+    /// A call on which the Rust and document 01 cannot both be right.
+    pub fn fault(&mut self, operation: &Operation, operands: Operands, what: &str) {
+        let [a, b, c] = operands;
+        let (number, name) = (operation.number, operation.name);
+        self.faults.push(format!("{number:02x} {a:016x} {b:016x} {c:016x} {name}: {what}"));
+    }
+
+    pub fn has_faults(&self) -> bool {
+        !self.faults.is_empty()
+    }
+}
+
+/// Operands without their signs, the less the smaller; of two signs the positive comes first.
+fn magnitudes(kinds: &[Kind], operands: Operands) -> Vec<(u64, u64)> {
+    let magnitude = |(&kind, operand): (&Kind, u64)| match kind {
+        Kind::Float => (operand & (u64::MAX >> 1), operand >> 63),
+        Kind::Signed => ((operand as i64).unsigned_abs(), operand >> 63),
+        _ => (operand, 0),
+    };
+    kinds.iter().zip(operands).map(magnitude).collect()
+}
+
+impl fmt::Display for Findings {
+    fn fmt(&self, f: &mut fmt::Formatter<'_>) -> fmt::Result {
+        writeln!(f, "Refused with 7:")?;
+        writeln!(
+            f,
+            "op {:<24} {:<30} {:>6} {:>7}  smallest that Rust answers",
+            "name", "reason", "panics", "answers"
+        )?;
+        for (&(number, reason), refused) in &self.refused {
+            let name = find(number).name;
+            let (panics, answers) = (refused.panics, refused.answers);
+            write!(f, "{number:02x} {name:<24} {reason:<30} {panics:>6} {answers:>7}")?;
+            if let Some(([a, b, c], answer)) = refused.smallest {
+                write!(f, "  {a:016x} {b:016x} {c:016x}: {answer:016x}")?;
+            }
+            writeln!(f)?;
+        }
+        writeln!(f, "Faults: {}", self.faults.len())?;
+        for fault in &self.faults {
+            writeln!(f, "{fault}")?;
+        }
+        Ok(())
+    }
+}
