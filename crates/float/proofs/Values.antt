@@ -1,4 +1,4 @@
--- The laws that the proofs of `abs`, `as_u64`, `ceil` and `round` cite, each of any float, by cases on it.
+-- The laws that the proofs of `abs`, `ceil` and `round` cite, each of any float, by cases on it.
 -- Assumes nothing.
 use mathlib.Core.Path.{_≡_, refl, sym, ap, _∙_, subst}
 use mathlib.Core.Bool.{Bool, true, false, not, _||_, Bool·beq, true≢false, false≢true}
@@ -131,25 +131,7 @@ abs-other nan h = refl
 abs-other (inf false) h = refl
 abs-other (fin false m e) h = refl
 
--- ---- `as_u64`, which tests x against -1.0 and 2 ^ 64
-
-pub cast-over : (x : Float) → lt (neg (bits 0x3ff0_0000_0000_0000)) x ≡ true → lt x (bits 0x43f0_0000_0000_0000) ≡ false → 2 ^ 64 - 1 ≡ toUnsigned 64 x
-unfolding lt neg ofBits toUnsigned
-cast-over nan h k = absurd (false≢true h)
-cast-over (inf true) h k = absurd (false≢true h)
-cast-over (inf false) h k = refl
-cast-over (fin true m e) h k = absurd (omega (arith, ltb-false, down-pos e))
-cast-over (fin false m e) h k =
-    let l : 2 ^ 64 * down e ≤ m * up e = omega (arith, ltb-false) in
-    omega (arith, le-div-iff-mul-le (down-pos e) .1 l)
-
-pub cast-under : (x : Float) → lt (neg (bits 0x3ff0_0000_0000_0000)) x ≡ false → 0 ≡ toUnsigned 64 x
-unfolding lt neg ofBits toUnsigned
-cast-under nan h = refl
-cast-under (inf true) h = refl
-cast-under (inf false) h = absurd (true≢false h)
-cast-under (fin true m e) h = refl
-cast-under (fin false m e) h = absurd (omega (arith, ltb-false, down-pos e))
+-- ---- the cast to an integer
 
 cast-inside : (x : Float) (a c : ℕ) → 0 < c → HasValue x false a c → a < 2 ^ 64 * c → toUnsigned 64 x ≡ a / c
 unfolding toUnsigned

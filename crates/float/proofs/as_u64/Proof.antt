@@ -2,7 +2,8 @@
 -- Assumes nothing.
 use borrow.Author.Needs.{needs}
 use lib.Ieee.{neg, ofBits}
-use Rattle.float.proofs.Values.{yes, cast-over, cast-under}
+use Rattle.float.proofs.Values.{yes}
+use Rattle.float.proofs.Limits.{unsigned-top, unsigned-bottom}
 use Rattle.float.proofs.as_u64.Statement.{statement}
 use Rattle.float.proofs.as_u64.Tie as tie
 
@@ -14,10 +15,10 @@ returns : tie.Need-returns
 returns c = search needs
 
 returns-2 : tie.Need-returns-2
-returns-2 c = cast-over _ (c .before .if1 .taken) (c .if2 .left)
+returns-2 c = unsigned-top _ (c .before .if1 .taken) (c .if2 .left)
 
 returns-3 : tie.Need-returns-3
-returns-3 c = cast-under _ (c .if1 .left)
+returns-3 c = unsigned-bottom _ (c .if1 .left)
 
 pub as-u64-spec : {M : Type 1} → statement M
 as-u64-spec = tie.close (tie.spec truncating-f64-to-u64-requires returns returns-2 returns-3)
