@@ -4,6 +4,7 @@
 set -eu
 cd "$(dirname "$0")"
 if command -v rustc >/dev/null 2>&1; then
-    oracle/arithmetic-levels.sh
+    oracle/levels.sh arithmetic replay
+    oracle/levels.sh logarithm replay_logarithm
 fi
 exec rt ci

@@ -1,0 +1,3 @@
+pub mod Exponent
+pub mod Steps
+pub mod Table

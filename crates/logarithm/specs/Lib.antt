@@ -1,0 +1,4 @@
+pub mod Ln
+pub mod Power
+pub mod Starred
+mod Examples
