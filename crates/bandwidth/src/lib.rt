@@ -41,7 +41,7 @@ pub struct SizeAnswer {
 }
 
 impl RateAnswer {
-    const REFUSED: RateAnswer = RateAnswer {
+    pub const REFUSED: RateAnswer = RateAnswer {
         rate: Bitrate { bps: 0.0 },
         refusal: 7,
     };

@@ -108,7 +108,7 @@ fn same_sign(a: i64, b: i64) -> bool
 }
 
 // a without its sign. -a may not be an i64, but -1 - a is one where a is negative.
-fn magnitude(a: i64) -> u64
+pub fn magnitude(a: i64) -> u64
     ensures { λ r. ⌜ r ≡ natAbs a ⌝ }
 {
     if a >= 0 {

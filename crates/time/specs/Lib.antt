@@ -1,0 +1,7 @@
+pub mod Nanos
+pub mod Order
+pub mod Delta
+pub mod Time
+pub mod Starred
+pub mod Same
+mod Examples
