@@ -1,0 +1,4 @@
+pub mod Plain
+pub mod Exact
+pub mod Ratio
+mod Examples
