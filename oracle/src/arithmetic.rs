@@ -1,4 +1,4 @@
-//! Writes a list of calls on `Bitrate`, `DataSize` and f64, and the answer to each: 7 and zero
+//! Writes a list of calls on `Bitrate`, `DataSize`, times and f64, and the answer to each: 7 and zero
 //! where document 01 refuses the call, else 0 and what the published Rust answers. Standard error
 //! gets what the Rust does where document 01 refuses. See README.md.
 
@@ -16,14 +16,17 @@ mod calls;
 mod edges;
 #[path = "arithmetic/findings.rs"]
 mod findings;
+mod instant;
 #[path = "arithmetic/operations.rs"]
 mod operations;
 mod random;
 #[path = "arithmetic/rules.rs"]
 mod rules;
+#[path = "arithmetic/times.rs"]
+mod times;
 
 use findings::Findings;
-use operations::{find, Operands, Operation, OPERATIONS, TWINS};
+use operations::{all, find, Operands, Operation, TWINS};
 
 const _: () = assert!(usize::BITS == 64, "document 01's usize has 64 bits");
 
@@ -45,7 +48,7 @@ impl Replay {
             }
             (Some(reason), rust) => {
                 self.findings.refused(operation, reason, operands, rust);
-                (7, 0)
+                (7, operation.zero)
             }
         };
         self.compare_twins(operation, operands, rust);
@@ -73,7 +76,7 @@ fn run(operation: &Operation, operands: Operands) -> Option<u64> {
 
 fn replay() -> Replay {
     let mut replay = Replay::default();
-    let lists: Vec<_> = OPERATIONS.iter().map(|op| (op, calls::calls(op))).collect();
+    let lists: Vec<_> = all().map(|op| (op, calls::calls(op))).collect();
     let hook = panic::take_hook();
     panic::set_hook(Box::new(|_| {}));
     for (operation, calls) in lists {

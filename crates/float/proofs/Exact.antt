@@ -63,7 +63,7 @@ module _ (f : Format) where
       )
 
   -- 2 ^ e is a multiple of the format's smallest value
-  scaled : (e : ℤ) → down e ≤ 2 ^ low f → (j : ℕ) × (up e * 2 ^ low f ≡ 2 ^ j * down e)
+  pub scaled : (e : ℤ) → down e ≤ 2 ^ low f → (j : ℕ) × (up e * 2 ^ low f ≡ 2 ^ j * down e)
   scaled (pos k) h = (k + low f, sym (pow-add 2 k (low f)) ∙ sym (mul-one (2 ^ (k + low f))))
   scaled (negsuc k) h =
       let l : k < low f = lt-of-not-le (λ g. not-le-of-lt (pow-lt (le-refl (suc k))) (le-trans h (pow-mono g))) in

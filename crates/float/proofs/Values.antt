@@ -2,8 +2,8 @@
 -- Assumes nothing.
 use mathlib.Core.Path.{_≡_, refl, sym, ap, _∙_, subst}
 use mathlib.Core.Bool.{Bool, true, false, not, _||_, Bool·beq, true≢false, false≢true}
-use Prim.Native.Nat.{ℕ, _+_, _-_, _*_, _/_, _^_, _≤_, _<_}
-use native.Mathlib.Nat.{lt-of-lt-of-le, zero-mul, mul-one, one-mul, add-mul, mul-comm, mul-left-comm, mul-right-comm, mul-le-mul-right, mul-lt-mul-of-pos-right, pow-suc, div-lt-iff-lt-mul, le-div-iff-mul-le, div-eq-of-lt-le, div-eq-of-eq-mul-left, lt-div-mul-add, div-mul-le-self, div-div-eq-div-mul, add-div-right}
+use Prim.Native.Nat.{ℕ, _+_, _-_, _*_, _/_, _^_, _<_}
+use native.Mathlib.Nat.{lt-of-lt-of-le, zero-mul, mul-one, one-mul, add-mul, mul-comm, mul-left-comm, mul-right-comm, mul-le-mul-right, mul-lt-mul-of-pos-right, pow-suc, div-lt-iff-lt-mul, div-eq-of-lt-le, div-eq-of-eq-mul-left, lt-div-mul-add, div-mul-le-self, div-div-eq-div-mul, add-div-right}
 use native.Mathlib.Omega.{arith}
 use borrow.Author.Tests.{ltb-true, ltb-false, lt-ltb, le-ltb}
 use lib.Dec.{T, ltb, eqb, eqb→eq, lit<, lit≤}
@@ -133,7 +133,7 @@ abs-other (fin false m e) h = refl
 
 -- ---- the cast to an integer
 
-cast-inside : (x : Float) (a c : ℕ) → 0 < c → HasValue x false a c → a < 2 ^ 64 * c → toUnsigned 64 x ≡ a / c
+pub cast-inside : (x : Float) (a c : ℕ) → 0 < c → HasValue x false a c → a < 2 ^ 64 * c → toUnsigned 64 x ≡ a / c
 unfolding toUnsigned
 cast-inside (fin true m e) a c p v h = absurd (true≢false (v .0))
 cast-inside (fin false m e) a c p v h = omega (arith, div-same _ _ a c (down-pos e) p (v .1), div-lt-iff-lt-mul p .1 h)

@@ -8,12 +8,17 @@ use bandwidth::OptionBitrate;
 use bandwidth::RateAnswer;
 use bandwidth::SizeAnswer;
 use duration::Duration;
+use duration::DurationAnswer;
 use float::FloatAnswer;
 use float::PartialOrdering;
 use integer::IntegerAnswer;
 use integer::Ordering;
 use libc::STDIN_FILENO;
 use libc::STDOUT_FILENO;
+use time::TimeDelta;
+use time::TimeDeltaAnswer;
+use time::Timestamp;
+use time::TimestampAnswer;
 
 // What a call answers: the refusal, and the result as 64 bits.
 struct Answer {
@@ -74,7 +79,9 @@ fn called(operation: u64, a: u64, b: u64, c: u64) -> Answer {
     match operation {
         0x00..=0x0F => float_answer(operation, a, b, c),
         0x10..=0x3F => rate_answer(operation, a, b, c),
-        _ => size_answer(operation, a, b, c),
+        0x40..=0x5F => size_answer(operation, a, b, c),
+        0x60..=0x7F => time_answer(operation, a, b, c),
+        _ => delta_answer(operation, a, b, c),
     }
 }
 
@@ -171,7 +178,135 @@ fn size_answer(operation: u64, a: u64, b: u64, c: u64) -> Answer {
     }
 }
 
+// An operation that answers a time has an even number for its case and the next one for its ns.
+fn time_answer(operation: u64, a: u64, b: u64, c: u64) -> Answer {
+    let time = timestamp(c % 16, a);
+    let other = timestamp(c / 16, b);
+    let by = delta(c / 16, b);
+    let span = Duration { nanos: b };
+    match operation {
+        0x60 | 0x61 | 0x6E | 0x6F => refusable_time(operation, time.add_delta(by)),
+        0x62 | 0x63 | 0x70 | 0x71 => refusable_time(operation, time.sub_delta(by)),
+        0x64 | 0x65 | 0x72 | 0x73 => refusable_time(operation, time.add_duration(span)),
+        0x66 | 0x67 | 0x74 | 0x75 => refusable_time(operation, time.sub_duration(span)),
+        0x68 | 0x69 => delta_of(operation, time.sub(other)),
+        0x6A | 0x6B => delta_of(operation, time.sub_instant(b)),
+        0x6C | 0x6D => time_of(operation, Timestamp::from_instant(a)),
+        0x76 => bool_of(time.is_exact()),
+        0x77 => bool_of(time.eq(other)),
+        0x78 => ordering_of(time.cmp(other)),
+        0x79 => bool_of(time.lt(other)),
+        0x7A => bool_of(time.le(other)),
+        0x7B => bool_of(time.gt(other)),
+        _ => bool_of(time.ge(other)),
+    }
+}
+
+fn delta_answer(operation: u64, a: u64, b: u64, c: u64) -> Answer {
+    let first = delta(c % 16, a);
+    let second = delta(c / 16, b);
+    let span = Duration { nanos: b };
+    match operation {
+        0x80 | 0x81 => delta_of(operation, TimeDelta::ZERO),
+        0x82 | 0x83 => refusable_delta(operation, TimeDelta::from_secs(signed(a))),
+        0x84 | 0x85 => refusable_delta(operation, TimeDelta::from_millis(signed(a))),
+        0x86 | 0x87 | 0x8A | 0x8B => refusable_delta(operation, first.add(second)),
+        0x88 | 0x89 | 0x8C | 0x8D => refusable_delta(operation, first.sub(second)),
+        0x8E | 0x8F => refusable_delta(operation, first.div_u32((b % 0x1_0000_0000) as u32)),
+        0x90 | 0x91 => delta_of(operation, TimeDelta::from_duration(Duration { nanos: a })),
+        0x92 | 0x93 => delta_of(operation, first.max(second)),
+        0x94 => float_of(first.as_secs_f64()),
+        0x95 => bool_of(first.eq(second)),
+        0x96 => ordering_of(first.cmp(second)),
+        0x97 => bool_of(first.lt(second)),
+        0x98 => bool_of(first.le(second)),
+        0x99 => bool_of(first.gt(second)),
+        0x9A => bool_of(first.ge(second)),
+        0x9B => bool_of(first.eq_duration(span)),
+        0x9C => ordering_of(first.cmp_duration(span)),
+        0x9D => bool_of(first.lt_duration(span)),
+        0x9E => bool_of(first.le_duration(span)),
+        0x9F => bool_of(first.gt_duration(span)),
+        0xA0 => bool_of(first.ge_duration(span)),
+        0xA1 => refusable_rate(time::div_time_delta(DataSize::bytes(signed(a)), second)),
+        0xA2 => float_of(Duration { nanos: a }.as_secs_f64()),
+        _ => refusable_duration(Duration::from_secs_f64(float::from_bits(a))),
+    }
+}
+
 // ---- operands and results as 64 bits
+
+// DistantPast 0, Exact 1, DistantFuture 2
+fn timestamp(case: u64, ns: u64) -> Timestamp {
+    match case {
+        0 => Timestamp::DistantPast,
+        1 => Timestamp::Exact(ns),
+        _ => Timestamp::DistantFuture,
+    }
+}
+
+// NegativeInfinity 0, Negative 1, Positive 2, PositiveInfinity 3
+fn delta(case: u64, ns: u64) -> TimeDelta {
+    match case {
+        0 => TimeDelta::NegativeInfinity,
+        1 => TimeDelta::Negative(Duration { nanos: ns }),
+        2 => TimeDelta::Positive(Duration { nanos: ns }),
+        _ => TimeDelta::PositiveInfinity,
+    }
+}
+
+fn part_of(operation: u64, case: u64, ns: u64) -> u64 {
+    if operation % 2 == 0 { case } else { ns }
+}
+
+fn time_part(operation: u64, time: Timestamp) -> u64 {
+    match time {
+        Timestamp::DistantPast => part_of(operation, 0, 0),
+        Timestamp::Exact(ns) => part_of(operation, 1, ns),
+        Timestamp::DistantFuture => part_of(operation, 2, 0),
+    }
+}
+
+fn delta_part(operation: u64, delta: TimeDelta) -> u64 {
+    match delta {
+        TimeDelta::NegativeInfinity => part_of(operation, 0, 0),
+        TimeDelta::Negative(d) => part_of(operation, 1, d.nanos),
+        TimeDelta::Positive(d) => part_of(operation, 2, d.nanos),
+        TimeDelta::PositiveInfinity => part_of(operation, 3, 0),
+    }
+}
+
+fn time_of(operation: u64, time: Timestamp) -> Answer {
+    number_of(time_part(operation, time))
+}
+
+fn delta_of(operation: u64, delta: TimeDelta) -> Answer {
+    number_of(delta_part(operation, delta))
+}
+
+fn refusable_time(operation: u64, answer: TimestampAnswer) -> Answer {
+    let time = answer.time;
+    Answer {
+        refusal: answer.refusal,
+        result: time_part(operation, time),
+    }
+}
+
+fn refusable_delta(operation: u64, answer: TimeDeltaAnswer) -> Answer {
+    let delta = answer.delta;
+    Answer {
+        refusal: answer.refusal,
+        result: delta_part(operation, delta),
+    }
+}
+
+fn refusable_duration(answer: DurationAnswer) -> Answer {
+    let duration = answer.duration;
+    Answer {
+        refusal: answer.refusal,
+        result: duration.nanos,
+    }
+}
 
 // The i64 with this two's complement.
 fn signed(bits: u64) -> i64 {

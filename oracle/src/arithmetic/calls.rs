@@ -11,15 +11,18 @@ use crate::rules::Rule;
 const SEED: u64 = 0x0001_3741_A4A9_4000;
 const RANDOM_CALLS: usize = 150;
 const CLOSE_CALLS: usize = 60;
+/// A time's case and its ns are two operations, so that the number of calls doubles.
+const TIME_CALLS: usize = 30;
 
 /// The calls of one operation, each once.
 pub fn calls(operation: &Operation) -> BTreeSet<Operands> {
     let mut random = Random::new(SEED + u64::from(operation.number));
     let mut calls = combinations(operation.kinds);
-    for _ in 0..RANDOM_CALLS {
+    let times = matches!(operation.kinds, [.., Kind::Cases(..)]);
+    for _ in 0..if times { TIME_CALLS } else { RANDOM_CALLS } {
         calls.push(random_operands(operation.kinds, &mut random));
     }
-    for _ in 0..CLOSE_CALLS {
+    for _ in 0..if times { TIME_CALLS } else { CLOSE_CALLS } {
         calls.extend(close_operands(operation, &mut random));
         calls.extend(next_operands(operation.kinds, &mut random));
     }
@@ -66,7 +69,10 @@ fn random_operand(kind: Kind, random: &mut Random) -> u64 {
         Kind::Signed => random_signed(random) as u64,
         Kind::Unsigned => random.bits() >> random.below(64),
         Kind::Byte => random.below(256),
-        Kind::Nanos => random_nanos(random),
+        Kind::Nanos | Kind::Instant => random_nanos(random),
+        Kind::Divisor => random.below(1 << 32) >> random.below(32),
+        Kind::Cases(first, second) => random.below(first) + 16 * random.below(second),
+        Kind::None => 0,
     }
 }
 
@@ -116,7 +122,7 @@ fn close_operands(operation: &Operation, random: &mut Random) -> Option<Operands
     Some([a, b, c].map(|n| n as u64))
 }
 
-/// Two floats or two sizes that are equal or next to each other.
+/// Two floats, sizes or times that are equal or next to each other.
 fn next_operands(kinds: &[Kind], random: &mut Random) -> Option<Operands> {
     let a = random_operand(*kinds.first()?, random);
     let b = match kinds {
@@ -125,6 +131,10 @@ fn next_operands(kinds: &[Kind], random: &mut Random) -> Option<Operands> {
             random.pick(&[x.next_down(), x, x.next_up(), -x]).to_bits()
         }
         [Kind::Signed, Kind::Signed] => a.wrapping_add(random.pick(&[u64::MAX, 0, 1])),
+        [Kind::Instant, Kind::Instant, cases] => {
+            let b = a.wrapping_add(random.pick(&[u64::MAX, 0, 1]));
+            return Some([a, b, random_operand(*cases, random)]);
+        }
         _ => return None,
     };
     Some([a, b, 0])
@@ -137,6 +147,7 @@ fn chosen(number: u8) -> Vec<Operands> {
     match number {
         0x22 => [edge_bytes(), half_bytes()].concat(),
         0x4C => [edge_sizes(), vec![[125_000, 500 * MILLISECOND, 0]]].concat(),
+        0xA3 => seconds(),
         _ => Vec::new(),
     }
 }
@@ -174,4 +185,16 @@ fn edge_sizes() -> Vec<Operands> {
     let over = |nanos| edges::signeds().into_iter().map(move |size| [size, nanos, 0]);
     let spans = [0, 250 * MILLISECOND, 500 * MILLISECOND, SECOND, 60 * SECOND];
     spans.into_iter().flat_map(over).collect()
+}
+
+/// Seconds whose ns are halfway between two whole numbers, or next to that; the hold's spans and
+/// their doubles; the last seconds that have a u64 of ns.
+fn seconds() -> Vec<Operands> {
+    let halves = (0..64).map(|n| (2 * n + 1) as f64 / 1_024.0);
+    let small = (0..200).map(|n| f64::from(n) / 2.0 * 1e-9);
+    let holds = (0..10).map(|n| 0.3 * f64::from(1 << n));
+    let limits = [18_446_744_073.0, 18_446_744_073.709_55, 18_446_744_074.0, 34_359_738_368.0];
+    let near = |x: f64| [x.next_down().next_down(), x.next_down(), x, x.next_up(), x.next_up().next_up()];
+    let all = halves.chain(small).chain(holds).chain(limits);
+    all.flat_map(near).map(|x| [x.to_bits(), 0, 0]).collect()
 }

@@ -15,6 +15,10 @@ pub fn edges(kind: Kind, operands: usize) -> Vec<u64> {
         (Kind::Unsigned, _) => factors(),
         (Kind::Byte, _) => (0..=255).collect(),
         (Kind::Nanos, _) => durations(),
+        (Kind::Instant, _) => instants(),
+        (Kind::Divisor, _) => vec![0, 1, 2, 3, 1_000, (1 << 32) - 1],
+        (Kind::Cases(first, second), _) => cases(first, second),
+        (Kind::None, _) => vec![0],
     }
 }
 
@@ -138,4 +142,12 @@ pub fn durations() -> Vec<u64> {
     let seconds = [1, 60, 3_600, 4_000_000_000].map(|s| s * 1_000_000_000);
     let odd = [1_000_000_001, 1 << 53, (1 << 53) + 1, u64::MAX - 1, u64::MAX];
     [&short[..], &seconds, &odd].concat()
+}
+
+fn instants() -> Vec<u64> {
+    vec![0, 1, 250_000_001, 1 << 63, u64::MAX]
+}
+
+fn cases(first: u64, second: u64) -> Vec<u64> {
+    (0..second).flat_map(|b| (0..first).map(move |a| a + 16 * b)).collect()
 }

@@ -6,6 +6,7 @@ use std::time::Duration;
 
 use crate::bandwidth::{Bitrate, DataSize};
 use crate::rules::Rule;
+use crate::times;
 
 /// A, B and C as their line shows them; an operand that an operation does not have is 0.
 pub type Operands = [u64; 3];
@@ -17,6 +18,14 @@ pub enum Kind {
     Unsigned,
     Byte,
     Nanos,
+    /// ns of a time, with fewer edges than Nanos, since a time has cases too.
+    Instant,
+    /// The u32 that a time is divided by.
+    Divisor,
+    /// C as two digits, each the case of a time: so many of the first, and of the second.
+    Cases(u64, u64),
+    /// No operand.
+    None,
 }
 
 pub struct Operation {
@@ -24,6 +33,8 @@ pub struct Operation {
     pub name: &'static str,
     pub kinds: &'static [Kind],
     pub rule: Rule,
+    /// The result beside a 7: zero, which for the case of a time is that of 0 ns.
+    pub zero: u64,
     pub rust: fn(Operands) -> u64,
 }
 
@@ -39,11 +50,11 @@ fn rate(bits: u64) -> Bitrate {
     Bitrate::from(float(bits))
 }
 
-fn size(bits: u64) -> DataSize {
+pub fn size(bits: u64) -> DataSize {
     DataSize::bytes(signed(bits))
 }
 
-fn nanos(n: u64) -> Duration {
+pub fn nanos(n: u64) -> Duration {
     Duration::from_nanos(n)
 }
 
@@ -64,7 +75,7 @@ fn add_assign(a: u64, b: u64) -> DataSize {
 }
 
 /// The digits that stand for a result on an answer line.
-trait Digits {
+pub trait Digits {
     fn digits(self) -> u64;
 }
 
@@ -135,14 +146,14 @@ impl Digits for DataSize {
     }
 }
 
-const fn op(
+pub const fn op(
     number: u8,
     name: &'static str,
     kinds: &'static [Kind],
     rule: Rule,
     rust: fn(Operands) -> u64,
 ) -> Operation {
-    Operation { number, name, kinds, rule, rust }
+    Operation { number, name, kinds, rule, zero: 0, rust }
 }
 
 const F: &[Kind] = &[Kind::Float];
@@ -159,7 +170,7 @@ const SN: &[Kind] = &[Kind::Signed, Kind::Nanos];
 
 /// One row for each operation: letters F, S, U, Y and N name the kinds of its operands.
 #[rustfmt::skip]
-pub const OPERATIONS: &[Operation] = &[
+const OPERATIONS: &[Operation] = &[
     op(0x00, "f64 min", FF, Rule::Never, |[a, b, _]| float(a).min(float(b)).digits()),
     op(0x01, "f64 max", FF, Rule::Never, |[a, b, _]| float(a).max(float(b)).digits()),
     op(0x02, "f64 clamp", FFF, Rule::Clamp, |[a, b, c]| float(a).clamp(float(b), float(c)).digits()),
@@ -233,9 +244,28 @@ pub const OPERATIONS: &[Operation] = &[
 ];
 
 /// Pairs of operations that must answer alike.
-pub const TWINS: &[(u8, u8)] = &[(0x51, 0x4F), (0x52, 0x50)];
+pub const TWINS: &[(u8, u8)] = &[
+    (0x51, 0x4F),
+    (0x52, 0x50),
+    (0x6E, 0x60),
+    (0x6F, 0x61),
+    (0x70, 0x62),
+    (0x71, 0x63),
+    (0x72, 0x64),
+    (0x73, 0x65),
+    (0x74, 0x66),
+    (0x75, 0x67),
+    (0x8A, 0x86),
+    (0x8B, 0x87),
+    (0x8C, 0x88),
+    (0x8D, 0x89),
+];
+
+/// All operations, those of time.rs too.
+pub fn all() -> impl Iterator<Item = &'static Operation> {
+    OPERATIONS.iter().chain(times::operations())
+}
 
 pub fn find(number: u8) -> &'static Operation {
-    let found = OPERATIONS.iter().find(|op| op.number == number);
-    found.expect("a number of the table")
+    all().find(|op| op.number == number).expect("a number of the tables")
 }

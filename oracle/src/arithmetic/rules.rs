@@ -1,5 +1,5 @@
 //! When document 01 refuses a call with 7 ("Codes from the input"; "Corners, file by file",
-//! bandwidth.rs). Nothing here calls the published Rust: whole numbers are compared exactly, in 128
+//! bandwidth.rs and time.rs). Nothing here calls the published Rust: whole numbers are compared exactly, in 128
 //! bits, and floats by `partial_cmp`.
 
 use std::cmp::Ordering;
@@ -34,6 +34,8 @@ pub enum Rule {
     SizeToFloat,
     /// The same, which comes before the duration is looked at.
     SizeOverDuration,
+    /// A rule of times, which stands beside their operations.
+    Of(fn(Operands) -> Option<&'static str>),
 }
 
 impl Rule {
@@ -54,6 +56,7 @@ impl Rule {
             Rule::NegativeSize => (signed(a) < 0).then_some("negative size"),
             Rule::SizeToFloat => size_to_float(signed(a)),
             Rule::SizeOverDuration => size_over_duration(signed(a), b),
+            Rule::Of(reason) => reason(operands),
         }
     }
 }
