@@ -5,6 +5,7 @@ use mathlib.Core.Path.{_≡_, refl}
 use mathlib.Core.Bool.{true, false, true≢false}
 use native.Mathlib.Omega.{arith}
 use borrow.Author.Tests.{lt-ltb, le-ltb, leb-true, leb-false}
+use lib.Dec.{lit<}
 use lib.IntN.{ℤ, pos, negsuc}
 use lib.Signed.{leZ}
 use lib.Ieee.{binary64, inFloat}
@@ -33,7 +34,7 @@ too-high (negsuc n) h = absurd (true≢false h)
 -- the refusal beside a size's float tells whether the float holds it
 pub held : (s : DataSize) → float s .refusal ≡ 0 → inFloat binary64 (s .bytes) ≡ true
 unfolding float
-held s h = accepted (λ (a : FloatAnswer). a .refusal) _ _ (inFloat binary64 (s .bytes)) refl h
+held s h = accepted (λ (a : FloatAnswer). a .refusal) _ _ (inFloat binary64 (s .bytes)) (lit< tt) h
 
 pub not-held : (s : DataSize) → (float s .refusal ≡ 0 → ⊥) → inFloat binary64 (s .bytes) ≡ false
 unfolding float
@@ -42,7 +43,7 @@ not-held s h = declined (λ (a : FloatAnswer). a .refusal) _ _ (inFloat binary64
 -- and so the one beside a factor
 pub factor : (n : ℕ) → fitted (pos n) .refusal ≡ 0 → inI64 (pos n) ≡ true
 unfolding fitted
-factor n h = accepted (λ (a : IntegerAnswer). a .refusal) _ _ (inI64 (pos n)) refl h
+factor n h = accepted (λ (a : IntegerAnswer). a .refusal) _ _ (inI64 (pos n)) (lit< tt) h
 
 pub no-factor : (n : ℕ) → (fitted (pos n) .refusal ≡ 0 → ⊥) → inI64 (pos n) ≡ false
 unfolding fitted

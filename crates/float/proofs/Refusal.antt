@@ -1,12 +1,12 @@
--- An answer is chosen by a test, with refusal 0 where the test holds and 7 where not: the refusal tells the test.
+-- An answer is chosen by a test, with refusal 0 where the test holds and another number where not: the refusal tells the test.
 -- Assumes nothing.
-use Prim.Native.Nat.{ℕ}
-use mathlib.Core.Path.{_≡_, refl, sym, _∙_}
+use Prim.Native.Nat.{ℕ, _<_}
+use mathlib.Core.Path.{_≡_, refl}
 use mathlib.Core.Bool.{Bool, true, false, cond}
 use native.Mathlib.Omega.{arith}
 
 module _ {A : Type 0} (refusal : A → ℕ) (taken refused : A) where
-  pub accepted : (b : Bool) → refusal refused ≡ 7 → refusal (cond b taken refused) ≡ 0 → b ≡ true
+  pub accepted : (b : Bool) → 0 < refusal refused → refusal (cond b taken refused) ≡ 0 → b ≡ true
   accepted true r h = refl
   accepted false r h = absurd (omega arith)
 

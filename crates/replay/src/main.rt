@@ -1,7 +1,6 @@
 // Replays stored calls of the arithmetic. A line of standard input is an operation and three
 // operands, in hexadecimal, and is answered by the refusal and the result. oracle/README.md has the
 // table of operations, and says how the stored answers were made.
-ghost use Prim.Native.Nat.{_<_};
 use bandwidth::Bitrate;
 use bandwidth::DataSize;
 use bandwidth::OptionBitrate;
@@ -44,35 +43,15 @@ fn replay_line() -> bool {
     if n < 54 {
         return false;
     }
-    let operation = number(&line[0..2]);
-    let a = number(&line[3..19]);
-    let b = number(&line[20..36]);
-    let c = number(&line[37..53]);
+    let operation = hexadecimal::number(&line[0..2]);
+    let a = hexadecimal::number(&line[3..19]);
+    let b = hexadecimal::number(&line[20..36]);
+    let c = hexadecimal::number(&line[37..53]);
     let answer = called(operation, a, b, c);
     io::print_hex(STDOUT_FILENO, answer.refusal as u64, 1);
     io::write_all(STDOUT_FILENO, b" ");
     io::print_hex(STDOUT_FILENO, answer.result, 16);
     io::write_all(STDOUT_FILENO, b"\n")
-}
-
-fn number(text: &[u8]) -> u64 {
-    let mut n: u64 = 0;
-    let mut i = 0;
-    while i < text.len() {
-        n = n % 0x1000_0000_0000_0000 * 16 + digit(text[i]);
-        i += 1;
-    }
-    n
-}
-
-fn digit(byte: u8) -> u64
-    ensures { λ r. ⌜ r < 16 ⌝ }
-{
-    match byte {
-        b'0'..=b'9' => (byte - b'0') as u64,
-        b'a'..=b'f' => (byte - b'a') as u64 + 10,
-        _ => 0,
-    }
 }
 
 fn called(operation: u64, a: u64, b: u64, c: u64) -> Answer {

@@ -1,7 +1,6 @@
 // Replays stored calls of the logarithm, the power and the weights. A line of standard input is a
 // letter and one or two operands, in hexadecimal, and is answered by the refusal and the result's
 // bits. oracle/README.md says what the letters are and how the stored answers were made.
-ghost use Prim.Native.Nat.{_<_};
 use float::FloatAnswer;
 use libc::STDIN_FILENO;
 use libc::STDOUT_FILENO;
@@ -24,7 +23,7 @@ fn replay_line() -> bool {
     if n < 19 {
         return false;
     }
-    let operand = number(&line[2..18]);
+    let operand = hexadecimal::number(&line[2..18]);
     match line[0] {
         b'l' => print(logarithm::ln(float::from_bits(operand))),
         b'w' => print(taken(logarithm::weight(operand))),
@@ -39,7 +38,7 @@ fn replay_power(base: f64) -> bool {
     if n < 9 {
         return false;
     }
-    let exponent = number(&rest[0..8]) % 0x1_0000_0000;
+    let exponent = hexadecimal::number(&rest[0..8]) % 0x1_0000_0000;
     print(taken(logarithm::powi(base, exponent as u32)))
 }
 
@@ -52,24 +51,4 @@ fn print(answer: FloatAnswer) -> bool {
     io::write_all(STDOUT_FILENO, b" ");
     io::print_hex(STDOUT_FILENO, float::to_bits(answer.value), 16);
     io::write_all(STDOUT_FILENO, b"\n")
-}
-
-fn number(text: &[u8]) -> u64 {
-    let mut n: u64 = 0;
-    let mut i = 0;
-    while i < text.len() {
-        n = n % 0x1000_0000_0000_0000 * 16 + digit(text[i]);
-        i += 1;
-    }
-    n
-}
-
-fn digit(byte: u8) -> u64
-    ensures { λ r. ⌜ r < 16 ⌝ }
-{
-    match byte {
-        b'0'..=b'9' => (byte - b'0') as u64,
-        b'a'..=b'f' => (byte - b'a') as u64 + 10,
-        _ => 0,
-    }
 }

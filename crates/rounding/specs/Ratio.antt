@@ -5,18 +5,18 @@ use mathlib.Core.List.{List, foldl}
 use lib.IntN.{pos}
 use lib.Ieee.{Float, binary64, eq, ofInt}
 use Rattle.float.specs.Rounded.{_⊕_, _⊖_, _⊗_, _⊘_, bits}
+use Rattle.config.specs.Config.{«high_loss_rate_threshold», «instant_upper_bound_loss_offset», «instant_upper_bound_bandwidth_balance»}
 use Rattle.logarithm.specs.Power.{weight}
 use Rattle.rounding.specs.Exact.{Measured}
 
--- the settings `high_loss_rate_threshold` (1.0), `instant_upper_bound_loss_offset` (0.05) and `instant_upper_bound_bandwidth_balance` (100 kbps)
 abbrev pub highLoss : Float
-highLoss = bits 0x3FF0000000000000
+highLoss = «high_loss_rate_threshold»
 
 abbrev pub lossOffset : Float
-lossOffset = bits 0x3FA999999999999A
+lossOffset = «instant_upper_bound_loss_offset»
 
 abbrev pub bandwidthBalance : Float
-bandwidthBalance = bits 0x40F86A0000000000
+bandwidthBalance = «instant_upper_bound_bandwidth_balance» .bps
 
 -- ---- `average_reported_loss_ratio`
 -- total += weight * size
