@@ -1,5 +1,4 @@
-//! Document 01's logarithm and power ("Logarithm and powers"), written from its words, for any
-//! program here that puts them in the place of Rust's ln and powi.
+//! Document 01's logarithm and powers, step by step; nothing here is fused or reordered.
 
 const LN2_HI: f64 = f64::from_bits(0x3FE6_2E42_FEE0_0000);
 const LN2_LO: f64 = f64::from_bits(0x3DEA_39EF_3579_3C76);
@@ -11,14 +10,9 @@ const L5: f64 = f64::from_bits(0x3FC7_4664_96CB_03DE);
 const L6: f64 = f64::from_bits(0x3FC3_9A09_D078_C69F);
 const L7: f64 = f64::from_bits(0x3FC2_F112_DF3E_5244);
 
-/// The natural logarithm of a positive, normal, finite number; None, which is refusal 6, for any
-/// other.
-pub fn ln(x: f64) -> Option<f64> {
-    if !x.is_normal() || x.is_sign_negative() {
-        return None;
-    }
+/// The natural logarithm of a positive, normal, finite number.
+pub fn ln(x: f64) -> f64 {
     let (k, reduced) = reduce(x);
-    let k = f64::from(k);
     let f = reduced - 1.0;
     let q = (0.5 * f) * f;
     let s = f / (2.0 + f);
@@ -27,21 +21,20 @@ pub fn ln(x: f64) -> Option<f64> {
     let a = w * (L2 + w * (L4 + w * L6));
     let b = z * (L1 + w * (L3 + w * (L5 + w * L7)));
     let r = b + a;
-    Some(s * (q + r) + k * LN2_LO - q + f + k * LN2_HI)
+    s * (q + r) + k * LN2_LO - q + f + k * LN2_HI
 }
 
-/// k and the reduced argument of a positive, normal, finite number: x is reduced × 2^k, and reduced
-/// lies about 1, from the root of 1/2 to the root of 2.
-pub fn reduce(x: f64) -> (i32, f64) {
+/// k and the reduced argument: x is reduced × 2^k, and reduced lies about 1.
+pub fn reduce(x: f64) -> (f64, f64) {
     let bits = x.to_bits();
-    let (upper, lower) = ((bits >> 32) as u32, bits as u32);
-    let h = upper + 0x9_5F62;
-    let k = (h >> 20) as i32 - 1023;
+    let h = (bits >> 32) + 0x95F62;
+    let k = (h >> 20) as f64 - 1023.0;
     let upper = (h & 0xF_FFFF) + 0x3FE6_A09E;
-    (k, f64::from_bits((u64::from(upper) << 32) | u64::from(lower)))
+    let reduced = f64::from_bits(upper << 32 | bits & 0xFFFF_FFFF);
+    (k, reduced)
 }
 
-/// base to the power n, by squares from the lowest binary digit of n up.
+/// `base` to the power `n`, by squaring.
 pub fn powi(mut base: f64, mut n: u32) -> f64 {
     let mut answer = 1.0;
     while n != 0 {

@@ -1,0 +1,85 @@
+#!/bin/sh
+# Builds the oracle and compares, with fixed seeds, all that can be compared without the port, in
+# less than two minutes. Exit status 0 if everything agrees.
+set -eu
+cd "$(dirname "$0")/.."
+work=target/oracle/quick
+rm -rf "$work" && mkdir -p "$work"
+answer=$(oracle/build.sh answer)
+
+line() {
+    printf '%2s%20s%20s%6s\n' "$@"
+}
+
+# Usage: holds NAME ANSWER, with a list on standard input: whether the last answer is ANSWER.
+holds() {
+    last=$("$answer" | tail -n 1)
+    if [ "$last" != "$2" ]; then
+        echo "$1: answered$last, not$2" >&2
+        exit 1
+    fi
+}
+
+# Document 01's whole example.
+{
+    line 1 4696837146684686336 0 0
+    line 7 0 0 0
+} >"$work/example.calls"
+example=' 0 0 1 4696837146684686336 4576918229304087675'
+printf '%s\n%s\n' "$example" "$example" >"$work/example.answers"
+"$answer" <"$work/example.calls" | cmp - "$work/example.answers"
+printf '' | "$answer" | cmp - /dev/null
+echo "document 01's example: agrees"
+
+# Its values: the steps', and the ceiling of one observation (estimate 10^15 set after it).
+"$(oracle/build.sh values)"
+observe() {
+    line 5 0 0 0
+    line 6 9218868437227405312 0 0
+    line 5 "$1" 0 $((1000 - $2))
+    line 5 "$1" 1 "$2"
+    line 6 9218868437227405312 0 0
+    line 1 4831355200913801216 0 0
+}
+none=' 0 0 1 4831355200913801216 4576918229304087675'
+two_megabits=' 0 0 1 4701340746312056832 4576918229304087675'
+observe 250000001 50 | holds "50 of 1,000 bytes lost" "$none"
+observe 250000001 100 | holds "100 of 1,000 bytes lost" "$two_megabits"
+observe 250000000 100 | holds "a span of 250,000,000 ns" "$none"
+echo "document 01's values: agree"
+
+# Lines of any length, in constant memory.
+(
+    ulimit -v 65536
+    head -c 200000000 /dev/zero | "$answer"
+) >"$work/long"
+printf ' 1 0 0                   0 4576918229304087675\n' | cmp - "$work/long"
+echo "a line of 200 MB: agrees"
+
+# Lines that come in parts.
+for calls in oracle/sample/damaged-*.calls; do
+    dd if="$calls" bs=7 2>/dev/null | "$answer" | cmp - "${calls%.calls}.answers"
+done
+echo "lines in parts: agree"
+
+# The stored sample is what the generator and the oracle make today, at every level.
+oracle/sample.sh "$work/sample" >/dev/null
+for stored in oracle/sample/*.calls oracle/sample/*.answers; do
+    cmp "$stored" "$work/sample/$(basename "$stored")"
+done
+[ "$(ls oracle/sample/*.calls | wc -l)" = "$(wc -l <oracle/sample/lists.txt)" ]
+for level in 0 1 3; do
+    other=$(oracle/build.sh answer "$level")
+    for calls in oracle/sample/*.calls; do
+        "$other" <"$calls" | cmp - "${calls%.calls}.answers"
+    done
+done
+echo "the sample: agrees at levels 0 to 3"
+
+# The comparison finds no difference where there is none, and one where there is one.
+compare=$(oracle/build.sh compare)
+"$compare" 500 1 -- "$answer"
+if "$compare" 500 1 -- sed 's/1$/2/' >/dev/null; then
+    echo "the comparison misses a difference" >&2
+    exit 1
+fi

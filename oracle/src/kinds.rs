@@ -1,0 +1,65 @@
+//! The kinds of call lists that the generator makes, each from a seed.
+
+use crate::list::List;
+use crate::random::Random;
+
+#[path = "kinds/corners.rs"]
+mod corners;
+#[path = "kinds/damaged.rs"]
+mod damaged;
+#[path = "kinds/hold.rs"]
+mod hold;
+#[path = "kinds/link.rs"]
+mod link;
+#[path = "kinds/targets.rs"]
+mod targets;
+#[path = "kinds/ties.rs"]
+mod ties;
+#[path = "kinds/whole.rs"]
+mod whole;
+#[path = "kinds/wild.rs"]
+mod wild;
+
+pub type Make = fn(&mut Random, &mut List);
+
+/// Name, what it is, and the maker. The seed decides everything but the kind.
+pub const KINDS: &[(&str, &str, Make)] = &[
+    ("dense", "a match: packets every few ms, several reports per observation", link::dense),
+    ("sparse", "few packets per observation, spans from 250 ms to a minute", link::sparse),
+    ("hold", "in and out of Decreasing, times around the end of the hold", hold::hold),
+    ("wild", "any rate, any time, any order of calls", wild::wild),
+    ("small", "very small rates and sizes", wild::small),
+    ("corners", "the values that document 01 names, from a fresh controller", corners::corners),
+    ("queue", "4,096 and 4,097 packets", corners::queue),
+    ("ties", "choices that hang on one rounding", ties::ties),
+    ("targets", "situations that random lists seldom meet, twelve by number", targets::targets),
+    ("runaway", "zero bytes drive the rate above 2^64", targets::runaway),
+    ("damaged", "lines out of shape among good ones", damaged::damaged),
+    ("whole", "one list with something of every kind", whole::whole),
+];
+
+pub fn make(name: &str, seed: u64) -> Option<Vec<u8>> {
+    let place = KINDS.iter().position(|kind| kind.0 == name)?;
+    let mut random = Random::new(seed.wrapping_mul(1_000_003).wrapping_add(place as u64));
+    let mut list = List::new();
+    // The first seeds of targets are their numbers.
+    if name == "targets" && seed < targets::COUNT {
+        targets::target(seed, &mut list);
+    } else {
+        KINDS[place].2(&mut random, &mut list);
+    }
+    Some(list.text)
+}
+
+/// Lists of all kinds in turn; the long and always equal ones come seldom.
+pub fn any(seed: u64) -> (&'static str, Vec<u8>) {
+    let turn = [
+        "dense", "sparse", "hold", "wild", "ties", "small", "sparse", "corners", "ties", "damaged",
+        "hold", "targets",
+    ];
+    let name = match seed % 100 {
+        99 => "queue",
+        other => turn[other as usize % turn.len()],
+    };
+    (name, make(name, seed).expect("a kind's name"))
+}

@@ -1,0 +1,127 @@
+//! One line of a call list, read by document 01's rules. What a line alone decides is decided here;
+//! what the state decides (codes 10 to 12) is not.
+
+/// A refusal's number.
+pub type Code = u8;
+
+pub const NOT_IN_SHAPE: Code = 1;
+pub const RATE: Code = 2;
+pub const TIME: Code = 3;
+pub const FLAG: Code = 8;
+pub const SUMS: Code = 10;
+pub const COUNT: Code = 11;
+pub const QUEUE: Code = 12;
+
+pub const LINE_LENGTH: usize = 48;
+pub const LATEST_TIME: u64 = 4_000_000_000_000_000_000;
+pub const HIGHEST_RATE: f64 = 1e15;
+const HIGHEST_C: u64 = 65_535;
+
+#[derive(Debug, Clone, Copy, PartialEq)]
+pub struct Packet {
+    pub time: u64,
+    pub bytes: u64,
+    pub lost: bool,
+}
+
+/// An accepted line. Rates are bits, since a list may tell NaNs apart.
+#[derive(Debug, Clone, Copy, PartialEq)]
+pub enum Call {
+    Estimate(u64),
+    Acknowledged(u64),
+    Alr(Option<u64>),
+    LinkCapacity(Option<u64>),
+    Queue(Packet),
+    Report(u64),
+    Read,
+}
+
+pub fn read(line: &[u8]) -> Result<Call, Code> {
+    let (kind, a, b, c) = columns(line).ok_or(NOT_IN_SHAPE)?;
+    match kind {
+        1 | 2 | 6 if b == 0 && c == 0 => {
+            rate(a)?;
+            Ok(match kind {
+                1 => Call::Estimate(a),
+                2 => Call::Acknowledged(a),
+                _ => Call::Report(a),
+            })
+        }
+        3 if c == 0 => {
+            let start = optional(a, b)?;
+            start.map_or(Ok(()), time)?;
+            Ok(Call::Alr(start))
+        }
+        4 if c == 0 => {
+            let capacity = optional(a, b)?;
+            capacity.map_or(Ok(()), rate)?;
+            Ok(Call::LinkCapacity(capacity))
+        }
+        5 => {
+            time(a)?;
+            Ok(Call::Queue(Packet { time: a, lost: flag(b)?, bytes: c }))
+        }
+        7 if a == 0 && b == 0 && c == 0 => Ok(Call::Read),
+        _ => Err(NOT_IN_SHAPE),
+    }
+}
+
+fn columns(line: &[u8]) -> Option<(u64, u64, u64, u64)> {
+    if line.len() != LINE_LENGTH {
+        return None;
+    }
+    let kind = number(&line[..2])?;
+    let a = number(&line[2..22])?;
+    let b = number(&line[22..42])?;
+    let c = number(&line[42..])?;
+    (c <= HIGHEST_C).then_some((kind, a, b, c))
+}
+
+/// A decimal number, right-justified with spaces, without leading zeros, below 2^64.
+fn number(column: &[u8]) -> Option<u64> {
+    let start = column.iter().position(|&byte| byte != b' ')?;
+    let digits = &column[start..];
+    if digits.len() > 1 && digits[0] == b'0' {
+        return None;
+    }
+    let mut value: u64 = 0;
+    for &byte in digits {
+        if !byte.is_ascii_digit() {
+            return None;
+        }
+        value = value.checked_mul(10)?.checked_add(u64::from(byte - b'0'))?;
+    }
+    Some(value)
+}
+
+/// A field that is given if B is 1 and must be 0 if B is 0.
+fn optional(a: u64, b: u64) -> Result<Option<u64>, Code> {
+    match (flag(b)?, a) {
+        (true, a) => Ok(Some(a)),
+        (false, 0) => Ok(None),
+        (false, _) => Err(NOT_IN_SHAPE),
+    }
+}
+
+fn flag(b: u64) -> Result<bool, Code> {
+    match b {
+        0 => Ok(false),
+        1 => Ok(true),
+        _ => Err(FLAG),
+    }
+}
+
+fn rate(bits: u64) -> Result<(), Code> {
+    let rate = f64::from_bits(bits);
+    if rate.is_finite() && (rate.is_sign_negative() || rate > HIGHEST_RATE) {
+        return Err(RATE);
+    }
+    Ok(())
+}
+
+fn time(ns: u64) -> Result<(), Code> {
+    if ns > LATEST_TIME {
+        return Err(TIME);
+    }
+    Ok(())
+}

@@ -1,0 +1,90 @@
+//! Lines in, answers out, in constant memory whatever the lines' lengths.
+
+use std::io::{self, Read, Write};
+
+use crate::answer_line::{Answer, ANSWER_LENGTH};
+use crate::line::LINE_LENGTH;
+
+const CHUNK: usize = 1 << 16;
+
+/// The start of a line that goes on in the next chunk. One byte more than a line has is enough to
+/// know that it is too long.
+#[derive(Default)]
+struct Begun {
+    bytes: Vec<u8>,
+    any: bool,
+}
+
+impl Begun {
+    fn add(&mut self, part: &[u8]) {
+        let room = (LINE_LENGTH + 1).saturating_sub(self.bytes.len());
+        self.bytes.extend_from_slice(&part[..part.len().min(room)]);
+        self.any |= !part.is_empty();
+    }
+
+    fn clear(&mut self) {
+        self.bytes.clear();
+        self.any = false;
+    }
+}
+
+/// The last answer's text: most lines only queue a packet and leave all but the refusal as it was.
+struct Writer<W> {
+    out: W,
+    last: Option<Answer>,
+    text: [u8; ANSWER_LENGTH + 1],
+    full: Vec<u8>,
+}
+
+impl<W: Write> Writer<W> {
+    fn put(&mut self, answer: Answer) -> io::Result<()> {
+        if self.last != Some(answer) {
+            answer.write(&mut self.text);
+            self.last = Some(answer);
+        }
+        self.full.extend_from_slice(&self.text);
+        if self.full.len() >= CHUNK {
+            self.flush()?;
+        }
+        Ok(())
+    }
+
+    fn flush(&mut self) -> io::Result<()> {
+        self.out.write_all(&self.full)?;
+        self.full.clear();
+        self.out.flush()
+    }
+}
+
+pub fn run(
+    mut input: impl Read,
+    output: impl Write,
+    mut answer: impl FnMut(&[u8]) -> Answer,
+) -> io::Result<()> {
+    let mut chunk = vec![0; CHUNK];
+    let mut begun = Begun::default();
+    let mut writer =
+        Writer { out: output, last: None, text: [0; ANSWER_LENGTH + 1], full: Vec::new() };
+    loop {
+        let length = input.read(&mut chunk)?;
+        if length == 0 {
+            break;
+        }
+        let mut rest = &chunk[..length];
+        while let Some(end) = rest.iter().position(|&byte| byte == b'\n') {
+            if begun.any {
+                begun.add(&rest[..end]);
+                writer.put(answer(&begun.bytes))?;
+                begun.clear();
+            } else {
+                writer.put(answer(&rest[..end]))?;
+            }
+            rest = &rest[end + 1..];
+        }
+        begun.add(rest);
+    }
+    if begun.any {
+        writer.put(answer(&begun.bytes))?;
+    }
+    writer.flush()
+}

@@ -1,0 +1,140 @@
+//! Lists that are too long to store, written as they go.
+
+use std::io::{self, Write};
+
+type Stream = fn(&mut dyn Write) -> io::Result<()>;
+
+pub const STREAMS: &[(&str, &str, Stream)] = &[
+    ("bytes", "10^12 running bytes, one more, and on after the refusal (15 million lines)", bytes),
+    ("packets", "10^9 running packets and one more (10^9 lines)", packets),
+    ("count", "10^9 observations and one more (2 x 10^9 lines)", count),
+    ("infinity", "zero bytes drive the rate to infinity (68,000 lines)", infinity),
+    ("realistic", "dense lists end to end, two million lines", realistic),
+];
+
+pub fn known(name: &str) -> bool {
+    STREAMS.iter().any(|stream| stream.0 == name)
+}
+
+pub fn write(name: &str, out: &mut impl Write) -> io::Result<()> {
+    let mut out = io::BufWriter::with_capacity(1 << 16, out);
+    for stream in STREAMS {
+        if stream.0 == name {
+            stream.2(&mut out)?;
+        }
+    }
+    out.flush()
+}
+
+fn call(out: &mut dyn Write, kind: u64, a: u64, b: u64, c: u64) -> io::Result<()> {
+    writeln!(out, "{kind:2}{a:20}{b:20}{c:6}")
+}
+
+fn estimate(out: &mut dyn Write, rate: f64) -> io::Result<()> {
+    call(out, 1, rate.to_bits(), 0, 0)
+}
+
+fn packet(out: &mut dyn Write, time: u64, bytes: u64) -> io::Result<()> {
+    call(out, 5, time, 0, bytes)
+}
+
+fn report(out: &mut dyn Write) -> io::Result<()> {
+    call(out, 6, 1e9_f64.to_bits(), 0, 0)
+}
+
+/// `total` bytes in reports of at most 4,096 packets at time 1,000.
+fn fill(out: &mut dyn Write, mut total: u64) -> io::Result<()> {
+    while total > 0 {
+        for _ in 0..4_096 {
+            let size = total.min(65_535);
+            packet(out, 1_000, size)?;
+            total -= size;
+            if total == 0 {
+                break;
+            }
+        }
+        report(out)?;
+    }
+    Ok(())
+}
+
+fn bytes(out: &mut dyn Write) -> io::Result<()> {
+    estimate(out, 1e6)?;
+    fill(out, 1_000_000_000_000)?;
+    // One byte more is refused, also where the report would complete the observation.
+    for time in [1_000, 1_000_000_000] {
+        packet(out, time, 1)?;
+        report(out)?;
+    }
+    // Nothing is as good as an empty report; zero bytes are taken and complete.
+    report(out)?;
+    packet(out, 1_000, 0)?;
+    report(out)?;
+    packet(out, 1_000_000_000, 0)?;
+    report(out)?;
+    for time in 2..20 {
+        packet(out, time * 1_000_000_000, 60_000)?;
+        report(out)?;
+    }
+    // An ALR change forgets the sums.
+    call(out, 3, 1, 1, 0)?;
+    packet(out, 1_000, 65_535)?;
+    report(out)
+}
+
+fn packets(out: &mut dyn Write) -> io::Result<()> {
+    let mut left = 1_000_000_000;
+    while left > 0 {
+        let size = left.min(4_096);
+        for _ in 0..size {
+            packet(out, 1_000, 0)?;
+        }
+        report(out)?;
+        left -= size;
+    }
+    for time in [1_000, 1_000_000_000] {
+        packet(out, time, 0)?;
+        report(out)?;
+    }
+    report(out)
+}
+
+fn count(out: &mut dyn Write) -> io::Result<()> {
+    for i in 0..=1_000_000_000_u64 {
+        packet(out, i * 250_000_001, 1)?;
+        report(out)?;
+    }
+    estimate(out, 1e6)?;
+    // One more is refused; what completes nothing is not.
+    for time in [250_000_002_000_000_000, 1_000, 250_000_003_000_000_000] {
+        packet(out, time, 1)?;
+        report(out)?;
+    }
+    Ok(())
+}
+
+fn infinity(out: &mut dyn Write) -> io::Result<()> {
+    estimate(out, 1e15)?;
+    for i in 0..34_300_u64 {
+        packet(out, i * 300_000_000, 0)?;
+        call(out, 6, f64::INFINITY.to_bits(), 0, 0)?;
+    }
+    estimate(out, 1e15)?;
+    report(out)
+}
+
+fn realistic(out: &mut dyn Write) -> io::Result<()> {
+    let mut lines = 0;
+    for seed in 0.. {
+        let text = crate::kinds::make("dense", seed).expect("a kind's name");
+        out.write_all(&text)?;
+        // The next list's times start anew, which an ALR change allows.
+        call(out, 3, 1, 1, 0)?;
+        call(out, 3, 0, 0, 0)?;
+        lines += text.len() / 49;
+        if lines >= 2_000_000 {
+            break;
+        }
+    }
+    Ok(())
+}

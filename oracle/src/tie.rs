@@ -1,0 +1,99 @@
+//! Short lists with one float that is free, to be bisected to where the choice between two candidates
+//! flips: there the highest objectives lie one rounding apart.
+
+use crate::random::Random;
+
+const MS: u64 = 1_000_000;
+
+/// The four columns of a line.
+pub type Line = [u64; 4];
+
+/// Lines of which one has its A free.
+pub struct Tie {
+    lines: Vec<Line>,
+    free: usize,
+}
+
+pub fn text(line: &Line) -> String {
+    let [kind, a, b, c] = line;
+    format!("{kind:2}{a:20}{b:20}{c:6}")
+}
+
+impl Tie {
+    /// One to three observations near a weighted loss of a fifth, or of any loss at a small rate.
+    pub fn random(random: &mut Random, start: u64) -> Tie {
+        let small = random.below(4) == 0;
+        let rate = |random: &mut Random| {
+            let scale =
+                if small { 1 + random.below(40) } else { 1_000 * (50 + random.below(4_000)) };
+            (scale as f64).to_bits()
+        };
+        let mut lines = vec![[1, rate(random), 0, 0]];
+        if random.below(3) != 0 {
+            lines.push([2, rate(random), 0, 0]);
+        }
+        let free = random.below(lines.len() as u64) as usize;
+        let delay = if random.below(4) == 0 { f64::INFINITY.to_bits() } else { rate(random) };
+        let mut time = start;
+        lines.push([5, time, 0, 0]);
+        lines.push([6, delay, 0, 0]);
+        for _ in 0..1 + random.below(3) {
+            time += (260 + 10 * random.below(40)) * MS;
+            let bytes = if small { 10 + random.below(50) } else { 10_000 + random.below(50_000) };
+            let lost = if small { random.below(bytes) } else { bytes / 5 + random.below(7) - 3 };
+            lines.push([5, time, 0, bytes - lost]);
+            lines.push([5, time, 1, lost]);
+            lines.push([6, delay, 0, 0]);
+        }
+        Tie { lines, free }
+    }
+
+    pub fn with(&self, a: u64) -> Vec<Line> {
+        let mut lines = self.lines.clone();
+        lines[self.free][1] = a;
+        lines
+    }
+
+    /// Places where the choice, given all lines, flips between two floats next to each other.
+    pub fn flips(&self, choice: impl Fn(&[Line]) -> Option<usize>) -> Vec<u64> {
+        let start = f64::from_bits(self.lines[self.free][1]);
+        let points: Vec<u64> =
+            (0..12).map(|i| (start * (0.4 + 0.1 * i as f64)).to_bits()).collect();
+        let flip = |pair: &[u64]| self.bisect(pair[0], pair[1], &choice);
+        points.windows(2).filter_map(flip).collect()
+    }
+
+    fn bisect(
+        &self,
+        mut low: u64,
+        mut high: u64,
+        choice: impl Fn(&[Line]) -> Option<usize>,
+    ) -> Option<u64> {
+        let at_low = choice(&self.with(low));
+        if at_low == choice(&self.with(high)) {
+            return None;
+        }
+        while high - low > 1 {
+            let middle = low + (high - low) / 2;
+            if choice(&self.with(middle)) == at_low {
+                low = middle;
+            } else {
+                high = middle;
+            }
+        }
+        Some(low)
+    }
+}
+
+/// The first of the highest objectives, as `update_bandwidth_estimate` takes it.
+pub fn best(judged: &[[f64; 3]]) -> Option<usize> {
+    let mut best = None;
+    let mut highest = f64::MIN;
+    for (place, candidate) in judged.iter().enumerate() {
+        if candidate[2] > highest {
+            highest = candidate[2];
+            best = Some(place);
+        }
+    }
+    best
+}
