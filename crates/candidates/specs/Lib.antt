@@ -1,0 +1,4 @@
+pub mod Bound
+pub mod Candidate
+pub mod Choice
+mod Examples

@@ -1,0 +1,128 @@
+-- Worked examples of the definitions beside this file, by bit patterns, which antt computes. They test the definitions; no proof cites them.
+-- The floats expected are the Rust's.
+use Prim.Native.Nat.{ℕ, _+_, _*_, _%_}
+use mathlib.Core.Path.{_≡_, refl}
+use mathlib.Core.Bool.{true, false}
+use mathlib.Core.List.{List, [], _∷_}
+use lib.Ieee.{add, binary64, div, eq, inFloat, lt, mul, ofBits, ofInt, sub, toBits}
+use Rattle.duration.specs.Seconds.{seconds}
+use Rattle.integer.specs.Fitted.{ordered}
+use Rattle.bandwidth.specs.Rate as Rate
+use Rattle.bandwidth.specs.Size as Size
+use Rattle.bandwidth.specs.declared.OptionBitrate.the-variants.{None}
+use Rattle.time.specs.Delta as Delta
+use Rattle.time.specs.Time as Time
+use Rattle.time.specs.declared.Timestamp.the-variants.{Exact}
+use Rattle.logarithm.specs.Power.{weight}
+use Rattle.rounding.specs.Ratio.{lossRatio}
+use Rattle.packets.specs.declared.PacketResultsSummary.{PacketResultsSummary}
+use Rattle.likelihood.specs.declared.Row.{Row}
+use Rattle.observation.specs.Partial as Partial
+use Rattle.observation.specs.Ratio.{age, window, readable, reported, instantLimit, instantUpperBound, validOrMax, cached}
+use Rattle.observation.specs.Window.{dummy, cleared, reference, full, observed, stored, withCeiling, withPartial, renewed, completed, added}
+use Rattle.observation.specs.Rows.{rowOf}
+use Rattle.observation.specs.declared.Observation.{Observation}
+use Rattle.observation.specs.declared.Observations.{Observations}
+use Rattle.observation.specs.declared.PartialObservation.{PartialObservation}
+
+-- ---- running sums: exactly 10^12 bytes and 10^9 packets are taken, and one more is not; a lost sum that fits no u64 comes after
+
+abbrev sums : ℕ → ℕ → ℕ → PartialObservation
+sums packets size lost = record { «num_packets» = packets; «num_lost_packets» = 0; size = size; «lost_size» = lost }
+
+abbrev report : ℕ → ℕ → ℕ → ℕ → ℕ → PacketResultsSummary
+report packets lost bytes lost-bytes time =
+    record { «num_packets» = packets; «num_lost_packets» = lost; «total_size» = bytes; «lost_size» = lost-bytes; «last_send_time» = time }
+
+limits : Partial.updated (sums 999999999 999999999999 0) (report 1 0 1 0 0) .refusal ≡ 0
+    × Partial.updated (sums 999999999 999999999999 0) (report 2 0 1 0 0) ≡ Partial.refused (sums 999999999 999999999999 0) 10
+    × Partial.updated (sums 999999999 999999999999 0) (report 1 0 2 0 0) .refusal ≡ 10
+    × Partial.updated (sums 18446744073709551615 0 0) (report 18446744073709551615 0 0 0 0) .refusal ≡ 10
+    × Partial.updated (sums 1 1 18446744073709551615) (report 1 1 1 1 0) .refusal ≡ 7
+unfolding Partial.updated
+limits = (refl, refl, refl, refl, refl)
+
+-- ---- reports: the first sets the reference time, the second and the third each complete an observation
+
+-- report k: 3 + k packets, k % 4 of them lost, 1,000 + 777 k^2 bytes, 97 k^2 (k % 4) of them lost, 250,000,003 ns after the one before
+abbrev report-at : ℕ → PacketResultsSummary
+report-at k = report (3 + k) (k % 4) (1000 + 777 * k * k) (97 * k * k * (k % 4)) (1000000000 + k * 250000003)
+
+abbrev three : Observations
+three = added (added (added (cleared 0) (report-at 0) .observations) (report-at 1) .observations) (report-at 2) .observations
+
+three-reports : three .«num_observations» ≡ 2
+    × three .«last_send_time_most_recent_observation» ≡ Exact 1500000006
+    × three .«partial_observation» ≡ Partial.none
+    × toBits binary64 (cached (three .«cached_instant_upper_bound») .bps) ≡ 0x4132EAF2B8C0337F
+unfolding add div eq inFloat lt mul ofBits ofInt sub toBits seconds ordered Rate.over Delta.difference Delta.inSeconds Delta.order Delta.rate Time.since weight lossRatio Partial.updated age window readable reported instantLimit instantUpperBound validOrMax cached cleared reference full observed stored withCeiling withPartial renewed completed added
+three-reports = (refl, refl, refl, refl)
+
+-- ---- a full window after seventeen observations, the newest in slot 1
+
+abbrev slot : ℕ → ℕ → ℕ → Observation
+slot id size lost =
+    record {
+      «num_packets» = 9;
+      size = size;
+      «num_lost_packets» = 1;
+      «lost_size» = lost;
+      «num_received_packets» = 8;
+      «sending_rate» = Rate.nearest id;
+      id = id;
+      «is_initialized» = true;
+    }
+
+slots : List Observation
+slots =
+    slot 15 225553 28033
+    ∷ slot 16 252748 62856
+    ∷ slot 2 7993 2619
+    ∷ slot 3 13432 0
+    ∷ slot 4 49397 9409
+    ∷ slot 5 39073 14259
+    ∷ slot 6 50728 0
+    ∷ slot 7 63937 7857
+    ∷ slot 8 78700 19400
+    ∷ slot 9 95017 35211
+    ∷ slot 10 112888 0
+    ∷ slot 11 132313 16393
+    ∷ slot 12 153292 38024
+    ∷ slot 13 175825 65475
+    ∷ slot 14 199912 0
+    ∷ []
+
+abbrev later : Observations
+later =
+    record {
+      «partial_observation» = Partial.none;
+      «last_send_time_most_recent_observation» = Exact 5500000054;
+      «num_observations» = 17;
+      observations = slots;
+      «cached_instant_upper_bound» = None;
+    }
+
+ratio-example : toBits binary64 (reported later .value) ≡ 0x3FC7389E3ABEBC38
+unfolding slots add div eq inFloat mul ofBits ofInt toBits weight lossRatio age window readable reported
+ratio-example = refl
+
+ceiling-example : toBits binary64 (instantUpperBound later .rate .bps) ≡ 0x412738E4443DA647
+unfolding slots add div eq inFloat lt mul ofBits ofInt sub toBits Rate.over weight lossRatio age window readable reported instantLimit instantUpperBound
+ceiling-example = refl
+
+-- ---- the rows of slots 0, 1 and 2, whose ages are 1, 0 and 14: weight, lost, received and total
+
+each : Row → List ℕ
+each r = toBits binary64 (r .weight) ∷ toBits binary64 (r .lost) ∷ toBits binary64 (r .received) ∷ toBits binary64 (r .total) ∷ []
+
+row-examples :
+    each (rowOf 17 (slot 15 225553 28033)) ≡ 0x3FECCCCCCCCCCCCD ∷ 0x403C0872B020C49C ∷ 0x4068B0A3D70A3D71 ∷ 0x406C31B22D0E5604 ∷ []
+    × each (rowOf 17 (slot 16 252748 62856)) ≡ 0x3FF0000000000000 ∷ 0x404F6D916872B021 ∷ 0x4067BC8B43958106 ∷ 0x406F97EF9DB22D0E ∷ []
+    × each (rowOf 17 (slot 2 7993 2619)) ≡ 0x3FCD484471283D50 ∷ 0x4004F3B645A1CAC1 ∷ 0x40157EF9DB22D0E5 ∷ 0x401FF8D4FDF3B646 ∷ []
+unfolding each div inFloat mul ofBits ofInt toBits Size.kilobytes weight age rowOf
+row-examples = (refl, refl, refl)
+
+-- a size that no float holds is refused, but not in a slot that is not initialised
+unreadable : readable (slot 0 9007199254740992 9 ∷ []) ≡ true × readable (slot 0 9007199254740993 9 ∷ []) ≡ false × readable (dummy ∷ []) ≡ true
+unfolding inFloat readable
+unreadable = (refl, refl, refl)

@@ -1,0 +1,6 @@
+pub mod Partial
+pub mod Ratio
+pub mod Window
+pub mod Rows
+pub mod Starred
+mod Examples

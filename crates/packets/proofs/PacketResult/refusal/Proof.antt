@@ -1,0 +1,20 @@
+-- `packets::PacketResult::refusal` meets its contract. Assumes nothing.
+use borrow.Author.Tests.{lt-leb, le-leb}
+use Rattle.packets.specs.Summary.{packetRefusal}
+use Rattle.packets.proofs.PacketResult.refusal.Statement.{statement}
+use Rattle.packets.proofs.PacketResult.refusal.Tie as tie
+
+returns : tie.Need-returns
+unfolding packetRefusal
+returns c = rw (lt-leb _ _ (c .if1 .taken))
+
+returns-2 : tie.Need-returns-2
+unfolding packetRefusal
+returns-2 c = rw (le-leb _ _ (c .before .if1 .left), lt-leb _ _ (c .if2 .taken))
+
+returns-3 : tie.Need-returns-3
+unfolding packetRefusal
+returns-3 c = rw (le-leb _ _ (c .before .if1 .left), le-leb _ _ (c .if2 .left))
+
+pub refusal-spec : {M : Type 1} → statement M
+refusal-spec = tie.close (tie.spec returns returns-2 returns-3)
