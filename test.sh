@@ -8,6 +8,7 @@ if command -v rustc >/dev/null 2>&1; then
     oracle/quick.sh
     oracle/levels.sh arithmetic replay
     oracle/levels.sh logarithm replay_logarithm
+    oracle/levels.sh controller_steps replay_steps
 else
     echo "no rustc: the oracle is skipped"
 fi

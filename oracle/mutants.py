@@ -5,6 +5,10 @@ Usage: oracle/mutants.py [DIRECTORY [WORDS]]. DIRECTORY holds NAME.calls and NAM
 default oracle/sample; WORDS picks the mutants whose name has them. Prints one row per mutant: the
 lists that tell it, with the first line that differs. Exit status 1 if a mutant that is not marked
 'unseen' survives, if one that is marked is told, or if an edit does not fit or does not build.
+
+Usage: oracle/mutants.py --steps. Prints which mutants the stored states of the controller's steps
+tell, among those that edit the vendored files or the steps; setters and first values are no part
+of a state, so that some go untold.
 """
 
 import concurrent.futures
@@ -49,18 +53,19 @@ def edited(mutant):
 
 def sources():
     """What the program is built from; the generator and the other programs are no part of it."""
-    names = "answer answer_line bwe call_list instant line log reads steps stream".split()
+    names = """answer answer_line bwe call_list controller_steps instant line log private_steps
+        random reads steps stream""".split()
     return [ORACLE / "src" / (name + ".rs") for name in names] + sorted(ORACLE.glob("vendor/*.rs"))
 
 
-def build(mutant):
+def build(mutant, name="answer"):
     """The mutant's program; built anew only where a source or the edit changed."""
     text = edited(mutant)
     digest = hashlib.sha256((mutant["file"] + text).encode())
     for source in sources():
         digest.update(source.read_bytes())
     home = OUT / digest.hexdigest()[:24]
-    program = home / "answer"
+    program = home / name
     if program.exists():
         return program
     for part in ("src", "vendor"):
@@ -70,9 +75,9 @@ def build(mutant):
     (home / mutant["file"]).write_text(text)
     subprocess.run(
         ["rustc", "--edition", "2021", "-C", "opt-level=1", "-C", "overflow-checks=on",
-         "-A", "warnings", "-o", home / "new", home / "src/answer.rs"],
+         "-A", "warnings", "-o", home / (name + ".new"), home / "src" / (name + ".rs")],
         check=True, capture_output=True, text=True)
-    os.replace(home / "new", program)
+    os.replace(home / (name + ".new"), program)
     return program
 
 
@@ -129,7 +134,30 @@ def judge(mutant, lists):
     return ("SEEN" if told else "unseen"), mutant["unseen"], told
 
 
+def told_by_states(mutant):
+    """Whether a stored state of the controller's steps tells the mutant."""
+    program = build(mutant, "controller_steps")
+    answers = program.with_name("answers")
+    run = subprocess.run([program, program.with_name("states"), answers], capture_output=True)
+    stored = ROOT / "crates/replay_steps/stdout"
+    return run.returncode != 0 or answers.read_bytes() != stored.read_bytes()
+
+
+def states():
+    mutants = [mutant for mutant in read_mutants()
+               if mutant["file"].startswith("vendor/") or mutant["file"] == "src/steps.rs"]
+    with concurrent.futures.ThreadPoolExecutor(os.cpu_count()) as pool:
+        told = list(pool.map(told_by_states, mutants))
+    for mutant, is_told in zip(mutants, told):
+        print("told  " if is_told else "untold", mutant["name"])
+    unseen = sum(is_told and mutant["unseen"] is not None for mutant, is_told in zip(mutants, told))
+    print(f"{sum(told)} of {len(mutants)} told, {unseen} of which no list tells")
+    return 0
+
+
 def main():
+    if sys.argv[1:] == ["--steps"]:
+        return states()
     directory = pathlib.Path(sys.argv[1]) if len(sys.argv) > 1 else ORACLE / "sample"
     words = sys.argv[2] if len(sys.argv) > 2 else ""
     lists = sorted(directory.glob("*.calls"))

@@ -40,3 +40,6 @@ impl LossController {
         candidates.iter_mut().map(judge).collect()
     }
 }
+
+#[path = "private_steps.rs"]
+mod private_steps;

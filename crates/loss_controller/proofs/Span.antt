@@ -3,12 +3,12 @@
 use mathlib.Core.Path.{_≡_, refl, sym, _∙_}
 use mathlib.Core.Bool.{Bool, true, false, _&&_, _||_, cond, true≢false, false≢true}
 use Prim.Native.Nat.{ℕ, zero, suc, _+_, _*_, _%_, _/_, _^_, _≤_, _<_, min}
-use native.Mathlib.Nat.{zero-mul, min-eq-left, min-eq-right}
+use native.Mathlib.Nat.{zero-mul, min-eq-left, min-eq-right, min-le-left}
 use native.Mathlib.Omega.{arith}
 use borrow.Author.Tests.{ltb-true, ltb-false, eqb-true, eqb-false, lt-ltb, le-ltb}
 use lib.Dec.{ltb, eqb, lit<, lit≤}
 use lib.IntN.{ℤ, pos}
-use lib.Ieee.{Float, nan, inf, fin, Format, binary64, up, down, odd, units, round, sum, add, mul, div, lt, eq, le, ofInt, ofBits}
+use lib.Ieee.{Float, nan, inf, fin, binary64, up, down, odd, units, round, sum, add, mul, div, lt, eq, le, ofInt, ofBits}
 use lib.Ieee.Fits.{down-pos}
 use lib.Ieee.Nearest.{closest, closest-mono}
 use lib.Ieee.Order.{kept, drop}
@@ -143,3 +143,11 @@ doubled-taken d = taken (twice d) (twice-unsigned d)
 pub doubled-is-minimum : (d : Duration) → fromSeconds (twice d) .refusal ≡ 0 → doubled d .nanos ≡ min 60000000000 (fromSeconds (twice d) .duration .nanos)
 unfolding doubled
 doubled-is-minimum d = smaller (twice d) (le sixty (twice d)) (twice-unsigned d) refl
+
+short : (x : Float) (b : Bool) → Unsigned x → le sixty x ≡ b → cond b «max_hold_duration» (fromSeconds x .duration) .nanos ≤ 60000000000
+short x true p h = lit≤ tt
+short x false p h = rw (smaller x false p h (taken x p h)) (min-le-left _ _)
+
+pub doubled-short : (d : Duration) → doubled d .nanos ≤ 60000000000
+unfolding doubled
+doubled-short d = short (twice d) (le sixty (twice d)) (twice-unsigned d) refl

@@ -1,5 +1,4 @@
 -- The hold, which keeps the estimate from rising straight after loss. Definitions only.
-use Prim.Native.Nat.{ℕ}
 use mathlib.Core.Bool.{false, cond}
 use lib.Dec.{eqb}
 use lib.Ieee.{Float, inf, le}

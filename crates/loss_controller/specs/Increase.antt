@@ -1,5 +1,4 @@
 -- The limits on an increase of the estimate, in the order of `update_bandwidth_estimate`. Definitions only.
-use Prim.Native.Nat.{ℕ}
 use mathlib.Core.Bool.{Bool, cond, _&&_, _||_}
 use lib.Dec.{eqb}
 use lib.Ieee.{Float, eq, lt}

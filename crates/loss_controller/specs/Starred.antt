@@ -1,7 +1,6 @@
 -- Document 01's starred value for the hold: after 38.4 s it is 60 s. Assumes nothing.
-use Prim.Native.Nat.{ℕ}
 use mathlib.Core.Path.{refl}
-use lib.Ieee.{add, div, eq, le, lt, mul, ofBits, ofInt}
+use lib.Ieee.{add, div, le, mul, ofBits, ofInt}
 use Rattle.float.specs.Claims.{Claims, none, claim, Hold}
 use Rattle.duration.specs.Seconds.{seconds}
 use Rattle.loss_controller.specs.Hold.{twice, doubled}

@@ -1,5 +1,4 @@
 -- The recovery after loss: the window in which a limit bounds the estimate. Definitions only.
-use Prim.Native.Nat.{ℕ}
 use mathlib.Core.Bool.{Bool, cond, not, _&&_, _||_}
 use lib.Dec.{eqb}
 use lib.Ieee.{lt}

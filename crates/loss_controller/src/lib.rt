@@ -323,6 +323,7 @@ impl Estimator {
         updated
     }
 
+    // A best rate below the current one is a reduction.
     fn with_reduction_noted(
         self,
         best_candidate: ChannelParameters,
@@ -352,6 +353,7 @@ impl Estimator {
         self
     }
 
+    // The steps after that, which stop where the hold runs.
     fn updated(self, best_candidate: ChannelParameters, report: Report) -> EstimatorAnswer
         ensures { λ r. ⌜ r ≡ Update.updated self «best_candidate» report ⌝ }
     {
@@ -417,6 +419,7 @@ impl Estimator {
         best
     }
 
+    // The limits where loss limits the estimate: the window's, then the ramp-up's
     fn increase_limited_due_to_loss(self, best: Bitrate, report: Report) -> RateAnswer
         ensures { λ r. ⌜ r ≡ Increase.increaseLimitedDueToLoss self best report ⌝ }
     {
@@ -507,6 +510,7 @@ impl Estimator {
         }
     }
 
+    // The window goes by the new state.
     fn with_new_state(self, best: ChannelParameters, report: Report) -> EstimatorAnswer
         ensures { λ r. ⌜ r ≡ Update.withNewState self best report ⌝ }
     {

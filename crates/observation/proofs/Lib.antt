@@ -1,4 +1,5 @@
 pub mod Limits
+pub mod Plain
 pub mod Rows
 pub mod Sizes
 pub mod Sums

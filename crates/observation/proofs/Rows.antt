@@ -1,14 +1,13 @@
 -- The loop over the slots makes the rows. Assumes nothing.
 use Prim.Native.Nat.{ℕ, _+_, _≤_, _<_}
 use mathlib.Core.Path.{_≡_, refl, sym, ap, _∙_}
-use mathlib.Core.Bool.{Bool, true, false, cond, _&&_}
+use mathlib.Core.Bool.{Bool, true, false}
 use mathlib.Core.List.{List, map}
 use native.Mathlib.Numerals.{add-one}
 use lib.Dec.{lit<}
 use lib.ListN.{length, getD, take, drop, set, length-map, List·getD-map, drop-of-length-le}
 use lib.Seq.{drop-cons, take-suc, take-suc-set, take-all}
 use Rattle.float.proofs.Refusal.{accepted, declined}
-use Rattle.likelihood.specs.declared.Row.{Row}
 use Rattle.observation.specs.Ratio.{legible, readable}
 use Rattle.observation.specs.Rows.{rowOf, row}
 use Rattle.observation.specs.declared.Observation.{Observation}

@@ -1,7 +1,7 @@
 -- The loop over the slots adds up what the loss ratio of the window's observations does. Assumes nothing.
 use Prim.Native.Nat.{ℕ}
 use mathlib.Core.Path.{_≡_, refl, sym, ap, _∙_}
-use mathlib.Core.Bool.{Bool, true, false, cond, _&&_}
+use mathlib.Core.Bool.{Bool, true, false, cond}
 use mathlib.Core.List.{List, [], _∷_, foldl}
 use lib.Dec.{lit<}
 use lib.Ieee.{Float, eq}

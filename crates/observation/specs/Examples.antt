@@ -3,8 +3,9 @@
 use Prim.Native.Nat.{ℕ, _+_, _*_, _%_}
 use mathlib.Core.Path.{_≡_, refl}
 use mathlib.Core.Bool.{true, false}
-use mathlib.Core.List.{List, [], _∷_}
-use lib.Ieee.{add, binary64, div, eq, inFloat, lt, mul, ofBits, ofInt, sub, toBits}
+use mathlib.Core.List.{List, [], _∷_, map}
+use lib.Ieee.{add, binary64, div, eq, inf, inFloat, le, lt, mul, ofBits, ofInt, sub, toBits}
+use Rattle.float.specs.Rounded.{bits}
 use Rattle.duration.specs.Seconds.{seconds}
 use Rattle.integer.specs.Fitted.{ordered}
 use Rattle.bandwidth.specs.Rate as Rate
@@ -18,8 +19,8 @@ use Rattle.rounding.specs.Ratio.{lossRatio}
 use Rattle.packets.specs.declared.PacketResultsSummary.{PacketResultsSummary}
 use Rattle.likelihood.specs.declared.Row.{Row}
 use Rattle.observation.specs.Partial as Partial
-use Rattle.observation.specs.Ratio.{age, window, readable, reported, instantLimit, instantUpperBound, validOrMax, cached}
-use Rattle.observation.specs.Window.{dummy, cleared, reference, full, observed, stored, withCeiling, withPartial, renewed, completed, added}
+use Rattle.observation.specs.Ratio.{age, window, readable, reported, highLossLimit, instantLimit, instantUpperBound, validOrMax, cached}
+use Rattle.observation.specs.Window.{dummy, cleared, reference, completes, full, observed, stored, withCeiling, withPartial, renewed, completed, added}
 use Rattle.observation.specs.Rows.{rowOf}
 use Rattle.observation.specs.declared.Observation.{Observation}
 use Rattle.observation.specs.declared.Observations.{Observations}
@@ -55,7 +56,7 @@ three-reports : three .«num_observations» ≡ 2
     × three .«last_send_time_most_recent_observation» ≡ Exact 1500000006
     × three .«partial_observation» ≡ Partial.none
     × toBits binary64 (cached (three .«cached_instant_upper_bound») .bps) ≡ 0x4132EAF2B8C0337F
-unfolding add div eq inFloat lt mul ofBits ofInt sub toBits seconds ordered Rate.over Delta.difference Delta.inSeconds Delta.order Delta.rate Time.since weight lossRatio Partial.updated age window readable reported instantLimit instantUpperBound validOrMax cached cleared reference full observed stored withCeiling withPartial renewed completed added
+unfolding add div eq inFloat lt mul ofBits ofInt sub toBits seconds ordered Rate.over Delta.difference Delta.inSeconds Delta.order Delta.rate Time.since weight lossRatio Partial.updated age window readable reported instantLimit instantUpperBound validOrMax cached cleared reference completes full observed stored withCeiling withPartial renewed completed added
 three-reports = (refl, refl, refl, refl)
 
 -- ---- a full window after seventeen observations, the newest in slot 1
@@ -126,3 +127,10 @@ row-examples = (refl, refl, refl)
 unreadable : readable (slot 0 9007199254740992 9 ∷ []) ≡ true × readable (slot 0 9007199254740993 9 ∷ []) ≡ false × readable (dummy ∷ []) ≡ true
 unfolding inFloat readable
 unreadable = (refl, refl, refl)
+
+-- ---- the ceiling of a ratio: 0.05 and a NaN set none, 1.0 the least, and above 1.0, where no list comes, the Rust panics
+limit-examples :
+    map (λ b. instantLimit (bits b)) (0x3FA999999999999A ∷ 0x7FF8000000000000 ∷ 0x3FF0000000000000 ∷ 0x3FF0000000000001 ∷ []) ≡
+    Rate.answered (Rate.rate (inf false)) ∷ Rate.answered (Rate.rate (inf false)) ∷ Rate.answered (Rate.rate (bits 0x40F9B2F286BCA1AF)) ∷ Rate.refused ∷ []
+unfolding instantLimit highLossLimit Rate.over Rate.minus Rate.times add div eq le lt mul ofBits sub
+limit-examples = refl

@@ -1,7 +1,7 @@
 -- The window as the rows that the likelihood reads. Definitions only.
 use Prim.Native.Nat.{ℕ}
 use mathlib.Core.Bool.{true, false, cond}
-use mathlib.Core.List.{List, map}
+use mathlib.Core.List.{map}
 use lib.IntN.{ℤ, pos, _-ℤ_}
 use lib.Ieee.{Float}
 use lib.ListN.{replicate}

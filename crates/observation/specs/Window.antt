@@ -1,7 +1,7 @@
 -- The window of fifteen observations, and what a report with packets does to it. Definitions only.
 use Prim.Native.Nat.{ℕ, _+_, _-_, _%_, _^_}
 use mathlib.Core.Bool.{Bool, true, false, cond, _&&_}
-use lib.Dec.{eqb, leb, ltb}
+use lib.Dec.{eqb, leb}
 use lib.IntN.{pos}
 use lib.Ieee.{inf}
 use lib.ListN.{replicate, set}
@@ -58,7 +58,7 @@ unfoldable pub reference : Timestamp → Timestamp → Timestamp
 reference recent last = cond (Time.isExact recent) recent last
 
 -- "An observation completes only when the span exceeds 250 ms"
-abbrev pub completes : TimeDelta → Bool
+unfoldable pub completes : TimeDelta → Bool
 completes span = isGt (Delta.order span (Positive Config.«observation_duration_lower_bound»))
 
 -- "11: 10^9 observations are complete and this report would complete another"

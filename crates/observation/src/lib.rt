@@ -16,6 +16,7 @@ use bandwidth::DataSize;
 use bandwidth::OptionBitrate;
 use bandwidth::RateAnswer;
 use float::FloatAnswer;
+use integer::Ordering;
 use likelihood::Row;
 use packets::PacketResultsSummary;
 use time::TimeDelta;
@@ -417,7 +418,11 @@ fn reference_time(most_recent: Timestamp, last_send_time: Timestamp) -> Timestam
 fn completes(observation_duration: TimeDelta) -> bool
     ensures { λ r. ⌜ r ≡ Window.completes «observation_duration» ⌝ }
 {
-    observation_duration.gt_duration(config::OBSERVATION_DURATION_LOWER_BOUND)
+    match observation_duration.cmp_duration(config::OBSERVATION_DURATION_LOWER_BOUND) {
+        Ordering::Less => false,
+        Ordering::Equal => false,
+        Ordering::Greater => true,
+    }
 }
 
 // ---- the loss ratio and the ceiling

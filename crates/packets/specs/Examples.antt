@@ -1,7 +1,6 @@
 -- Worked examples of the definitions beside this file, which antt computes. They test the definitions; no proof cites them.
-use Prim.Native.Nat.{ℕ}
 use mathlib.Core.Path.{_≡_, refl}
-use mathlib.Core.List.{List, [], _∷_}
+use mathlib.Core.List.{[], _∷_}
 use lib.ListN.{replicate}
 use Rattle.packets.specs.Summary.{columnsRefusal, packets, packetRefusal, refused, addPacket, summaryOf}
 

@@ -79,7 +79,7 @@ impl PacketResult {
 }
 
 // std::cmp::max of two instants.
-pub fn max(a: u64, b: u64) -> u64
+fn max(a: u64, b: u64) -> u64
     ensures { λ r. ⌜ r ≡ later a b ⌝ }
 {
     if a < b {

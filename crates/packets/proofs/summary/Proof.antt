@@ -1,4 +1,5 @@
--- `packets::summary` meets its contract. Assumes nothing.
+-- `packets::summary` meets its contract. The loop's invariant: the packets that are left, added to the totals so far, give the whole, and those totals are
+-- of at most i packets. Assumes nothing.
 use Prim.Native.Nat.{_≤_, _-_}
 use mathlib.Core.List.{foldl}
 use mathlib.Core.Path.{_≡_, refl, _∙_, sym}

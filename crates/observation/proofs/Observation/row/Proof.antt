@@ -38,12 +38,15 @@ received-as-kb-requires c κs =
 returns-4 : tie.Need-returns-4
 unfolding row rowOf
 returns-4 c =
+    let l = c .before .before .before .before .before in
+    let t = l .before .before in
+    let d = t .before in
     rw (
-      not-false (c .before .before .before .before .before .before .before .before .before .before .args .self .«is_initialized») (c .before .before .before .before .before .before .before .before .if1 .left),
-      kb-held _ (rw (c .before .before .before .before .before .before .before .as-kb .ensures) at (c .before .before .before .before .before .before .if2 .left)),
-      kb-held _ (rw (c .before .before .before .before .before .as-kb2 .ensures) at (c .before .before .before .before .if3 .left)),
-      c .before .before .before .before .before .before .before .as-kb .ensures,
-      c .before .before .before .before .before .as-kb2 .ensures,
+      not-false (d .before .before .args .self .«is_initialized») (d .if1 .left),
+      kb-held _ (rw (t .as-kb .ensures) at (l .before .if2 .left)),
+      kb-held _ (rw (l .as-kb2 .ensures) at (c .before .before .before .before .if3 .left)),
+      t .as-kb .ensures,
+      l .as-kb2 .ensures,
       ← c .before .before .age .ensures,
       ← c .before .weight .ensures,
       ← c .received-as-kb .ensures,

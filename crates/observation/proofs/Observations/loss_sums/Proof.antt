@@ -1,4 +1,5 @@
--- `observation::Observations::loss_sums` meets its contract. Assumes nothing.
+-- `observation::Observations::loss_sums` meets its contract. The loop's invariant: the slots that are left, added to the sums so far, give the whole.
+-- Assumes nothing.
 use Prim.Native.Nat.{_≤_, _<_, _-_}
 use mathlib.Core.List.{foldl}
 use mathlib.Core.Path.{_≡_, refl}

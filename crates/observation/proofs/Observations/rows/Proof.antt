@@ -1,4 +1,5 @@
--- `observation::Observations::rows` meets its contract. Assumes nothing.
+-- `observation::Observations::rows` meets its contract. The loop's invariant: the first i rows are made, and the slots that are left are readable where all are.
+-- Assumes nothing.
 use Prim.Native.Nat.{_≤_, _<_, _-_}
 use mathlib.Core.List.{map}
 use mathlib.Core.Path.{_≡_, refl, sym}

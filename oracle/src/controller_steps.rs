@@ -1,0 +1,197 @@
+//! Writes a list of random states of the controller, each with a report, and what the Rust's private
+//! steps answer there. See README.md.
+
+use std::fmt::Write;
+use std::process::ExitCode;
+use std::{env, fs, io, panic};
+
+#[path = "../vendor/bandwidth.rs"]
+#[rustfmt::skip]
+#[allow(dead_code)]
+mod bandwidth;
+#[allow(dead_code)]
+mod answer_line;
+#[allow(dead_code)]
+mod bwe;
+mod instant;
+#[allow(dead_code)]
+mod line;
+mod random;
+
+use bwe::loss_controller::LossController;
+use random::Random;
+
+const STATES: usize = 1_500;
+const SEED: u64 = 6;
+
+/// 250 ms is the span that an observation must exceed, 300 ms the recovery window and the first hold.
+const STEPS_NS: &[u64] =
+    &[0, 1, 250_000_000, 250_000_001, 300_000_000, 300_000_001, 600_000_000, 600_000_001];
+
+/// Where a state's values come from.
+struct States {
+    random: Random,
+    base: u64,
+    rate: f64,
+    plain: bool,
+}
+
+impl States {
+    /// A rate about the state's, so that comparisons go both ways; in a state that is not plain also
+    /// one that is infinite, negative or no number.
+    fn rate(&mut self) -> u64 {
+        const ODD: &[f64] =
+            &[f64::INFINITY, f64::NEG_INFINITY, f64::NAN, 0.0, -0.5, -1.0, -3.0e5, 5e-324, 1e300];
+        let rate = match self.random.below(if self.plain { 8 } else { 16 }) {
+            0..=2 => self.rate,
+            3 => self.rate * 1.3,
+            4 => self.rate + 1.0,
+            5..=7 => self.rate * (0.5 + self.random.fraction()),
+            8 => f64::from_bits(self.random.bits() >> 1),
+            9..=10 => self.random.pick(ODD),
+            11..=12 => f64::INFINITY,
+            _ => self.rate * (0.9 + self.random.fraction() / 5.0),
+        };
+        rate.to_bits()
+    }
+
+    fn option_rate(&mut self) -> [u64; 2] {
+        match self.random.below(3) {
+            0 => [0, 0],
+            _ => [1, self.rate()],
+        }
+    }
+
+    fn time(&mut self) -> [u64; 2] {
+        match self.random.below(8) {
+            0 => [0, 0],
+            1 => [2, 0],
+            _ => [1, self.instant()],
+        }
+    }
+
+    fn instant(&mut self) -> u64 {
+        let after = match self.random.below(5) {
+            0 => self.random.below(70_000_000_000),
+            1 => self.random.below(700_000_000),
+            _ => self.random.pick(STEPS_NS),
+        };
+        self.base.saturating_add(after)
+    }
+
+    fn inherent_loss(&mut self) -> u64 {
+        let odd = [0.0, 1.0, -0.25, 1.5, f64::NAN, f64::INFINITY];
+        let loss = match self.random.below(if self.plain { 6 } else { 8 }) {
+            0 => 0.01,
+            1 => 0.001,
+            2 => self.random.fraction(),
+            3..=5 => self.random.fraction() / 10.0,
+            _ => self.random.pick(&odd),
+        };
+        loss.to_bits()
+    }
+
+    /// A size and a lost size; now and then more is lost than sent, which no list reaches.
+    fn sizes(&mut self) -> [u64; 2] {
+        if self.random.below(12) == 0 {
+            return self.random.pick(&[[1_000, 50], [1_000, 10], [1_000, 0]]);
+        }
+        let size = self.random.bits() >> self.random.pick(&[24, 44, 50, 54]);
+        let lost = match self.random.below(40) {
+            0 => size + self.random.below(1_000),
+            1 => size,
+            2..=19 => 0,
+            _ => (size as f64 * self.random.fraction() / 4.0) as u64,
+        };
+        [size, lost]
+    }
+
+    /// Fifteen slots, whose ids lie within the window in any order, and still do after the report.
+    fn window(&mut self, count: u64, fields: &mut Vec<u64>) {
+        let filled = self.random.below(16);
+        let turned = self.random.below(15);
+        for slot in 0..15 {
+            let oldest = if slot == count % 15 { 14 } else { 13 };
+            let age = oldest.min((slot + turned) % 15);
+            if age < count && self.random.below(15) < filled {
+                let sizes = self.sizes();
+                fields.extend([1, count - 1 - age]);
+                fields.extend(sizes);
+                fields.push(self.rate());
+            } else {
+                fields.extend([0, 0, 0, 0, f64::NEG_INFINITY.to_bits()]);
+            }
+        }
+    }
+
+    fn partial(&mut self) -> [u64; 4] {
+        if self.random.below(2) == 0 {
+            return [0; 4];
+        }
+        let [size, lost_size] = self.sizes();
+        let packets = self.random.below(1_000);
+        let lost = self.random.below(packets + packets / 50 + 1);
+        [packets, lost, size % 400_000_000_000, lost_size % 400_000_000_000]
+    }
+
+    fn state(&mut self) -> Vec<u64> {
+        let highest = self.random.pick(&[4, 1_000, 1_000_000_000]);
+        let count = self.random.below(highest);
+        let mut fields = vec![self.random.below(3), count];
+        fields.extend(self.partial());
+        fields.extend(self.time());
+        fields.extend(self.option_rate());
+        self.window(count, &mut fields);
+        fields.extend([self.inherent_loss(), self.rate()]);
+        fields.extend(self.time());
+        fields.push(self.random.pick(&[300_000_000, 600_000_000, 38_400_000_000, 60_000_000_000]));
+        fields.push(self.rate());
+        fields.extend(self.time());
+        fields.extend(self.time());
+        fields.extend([self.rate(), self.rate(), self.rate(), self.random.below(2)]);
+        fields.extend(self.option_rate());
+        let [size, lost] = self.sizes();
+        let later = self.random.pick(&[0, 300_000_000, 600_000_000]);
+        let time = self.instant().saturating_add(later);
+        fields.extend([lost % 200_000_000_000, size % 200_000_000_000, time]);
+        fields
+    }
+}
+
+fn states() -> Vec<Vec<u64>> {
+    let mut states = States { random: Random::new(SEED), base: 0, rate: 0.0, plain: true };
+    let next = |_| {
+        states.plain = states.random.below(3) != 0;
+        let magnitude = states.random.pick(&[1e3, 1e4, 1e5, 1e6, 1e7]);
+        states.rate = (magnitude * (1.0 + 9.0 * states.random.fraction())).floor();
+        // The last times of a u64: a window or a hold that ends after them is refusal 7.
+        let late = states.plain && states.random.below(12) == 0;
+        states.base = if late { u64::MAX - 1_000_000_000 } else { states.random.bits() >> 4 };
+        states.state()
+    };
+    (0..STATES).map(next).collect()
+}
+
+fn write_line(text: &mut String, fields: &[u64]) {
+    for (i, field) in fields.iter().enumerate() {
+        let end = if i + 1 == fields.len() { '\n' } else { ' ' };
+        write!(text, "{field:016x}{end}").expect("a String grows");
+    }
+}
+
+fn main() -> io::Result<ExitCode> {
+    let paths: Vec<String> = env::args().skip(1).collect();
+    let [calls, answers] = paths.as_slice() else {
+        eprintln!("usage: controller_steps STATES ANSWERS");
+        return Ok(ExitCode::from(2));
+    };
+    panic::set_hook(Box::new(|_| {}));
+    let (mut lines, mut answered) = (String::new(), String::new());
+    for state in states() {
+        write_line(&mut lines, &state);
+        write_line(&mut answered, &LossController::step_answers(&state));
+    }
+    fs::write(calls, lines)?;
+    fs::write(answers, answered)?;
+    Ok(ExitCode::SUCCESS)
+}
