@@ -13,3 +13,8 @@ module _ {A : Type 0} (refusal : A → ℕ) (taken refused : A) where
   pub declined : (b : Bool) → refusal taken ≡ 0 → (refusal (cond b taken refused) ≡ 0 → ⊥) → b ≡ false
   declined true t h = absurd (h t)
   declined false t h = refl
+
+-- what holds of both holds of the one that a test chooses
+pub either : {A : Type 0} (P : A → Type 0) (b : Bool) (x y : A) → P x → P y → P (cond b x y)
+either P true x y p q = p
+either P false x y p q = q

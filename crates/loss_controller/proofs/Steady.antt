@@ -8,6 +8,7 @@ use borrow.Author.Tests.{lt-ltb}
 use lib.Dec.{eqb, lit≤}
 use lib.Ieee.{lt}
 use lib.Ieee.Scale.{finite}
+use Rattle.float.proofs.Refusal.{either}
 use Rattle.duration.specs.declared.Duration.{Duration}
 use Rattle.bandwidth.specs.declared.Bitrate.{Bitrate}
 use Rattle.bandwidth.specs.declared.RateAnswer.{RateAnswer}
@@ -59,10 +60,6 @@ record TakenRecovery (a : RecoveryAnswer) : Type 0 where
 pub record Taken (a : EstimatorAnswer) : Type 0 where
   pub refusal : a .refusal ≡ 0
   pub steady : Steady (a .estimator)
-
-either : {A : Type 0} (P : A → Type 0) (b : Bool) (x y : A) → P x → P y → P (cond b x y)
-either P true x y p q = p
-either P false x y p q = q
 
 plus-taken : (t : Timestamp) (d : Duration) → Timely t → d .nanos ≤ 60000000000 → plus t (Positive d) .refusal ≡ 0
 unfolding plus fitted

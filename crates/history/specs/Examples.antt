@@ -1,0 +1,70 @@
+-- Worked examples of the definitions beside this file, which antt computes. They test the definitions; no proof cites them.
+use Prim.Native.Nat.{ℕ, zero, suc, _+_, _*_}
+use mathlib.Core.Path.{_≡_, refl}
+use mathlib.Core.Bool.{true, false}
+use mathlib.Core.List.{List, [], _∷_}
+use mathlib.Core.Option.{none, some}
+use lib.ListN.{length}
+use Rattle.rounding.specs.Exact.{exactSum}
+use Rattle.history.specs.Calls.{Call, estimate, alr, report, read, Told}
+use Rattle.history.specs.History.{fresh, switched, bytesOf, lostOf, latest, completed, running, reported, heard, fed, after}
+use Rattle.history.specs.Window.{aged, weighedLost, weighedBytes, allBytes}
+
+abbrev taken : Call → Told
+taken c = record { call = c; refused = false }
+
+-- a packet of so many bytes that arrived and one that was lost, sent at this time
+abbrev sent : ℕ → ℕ → ℕ → Told
+sent time arrived lost = taken (report (time ∷ 0 ∷ []) (arrived ∷ lost ∷ []) (0 ∷ 1 ∷ []) 0)
+
+-- the first report sets the time; a span of 250,000,000 ns completes none, and 250,000,001 one, of the bytes so far
+spans :
+    after (sent 5 90 10 ∷ sent 250000005 1 0 ∷ []) ≡
+    record { pairs = []; running = record { bytes = 101; lost = 10 }; time = some 5; on = false; count = 0 }
+    × after (sent 5 90 10 ∷ sent 250000006 1 0 ∷ []) ≡
+    record { pairs = record { bytes = 101; lost = 10 } ∷ []; running = record { bytes = 0; lost = 0 }; time = some 250000006; on = false; count = 1 }
+unfolding fed heard reported completed running bytesOf lostOf latest
+spans = (refl, refl)
+
+-- refused, empty, read, and a setter other than ALR
+unchanged :
+    after
+    (record { call = report (5 ∷ []) (7 ∷ []) (0 ∷ []) 0; refused = true } ∷
+    taken (report [] [] [] 0) ∷
+    taken read ∷
+    taken (estimate 0) ∷
+    []) ≡
+    fresh
+unfolding fed heard
+unchanged = refl
+
+-- on empties all but the count, on again changes nothing, off empties again
+changes :
+    after (sent 5 90 10 ∷ sent 250000006 1 0 ∷ sent 250000007 2 0 ∷ taken (alr (some 1)) ∷ []) ≡
+    record { pairs = []; running = record { bytes = 0; lost = 0 }; time = none; on = true; count = 1 }
+    × after (taken (alr (some 1)) ∷ sent 5 90 10 ∷ taken (alr (some 2)) ∷ []) ≡
+    record { pairs = []; running = record { bytes = 100; lost = 10 }; time = some 5; on = true; count = 0 }
+    × after (taken (alr (some 1)) ∷ sent 5 90 10 ∷ taken (alr none) ∷ []) ≡ fresh
+unfolding fed heard switched reported completed running bytesOf lostOf latest
+changes = (refl, refl, refl)
+
+-- ---- the window
+
+-- reports of 1, 2, 3, .. bytes, 0.3 s apart, after one that sets the time
+counted : ℕ → ℕ → List Told
+counted zero k = []
+counted (suc n) k = sent (k * 300000000) k 0 ∷ counted n (k + 1)
+
+-- sixteen observations: the first pair is dropped
+sixteen : length (after (sent 0 0 0 ∷ counted 16 1) .pairs) ≡ 15
+    × after (sent 0 0 0 ∷ counted 16 1) .count ≡ 16
+    × allBytes (after (sent 0 0 0 ∷ counted 16 1) .pairs) ≡ 135
+unfolding counted fed heard reported completed running bytesOf lostOf latest allBytes
+sixteen = (refl, refl, refl)
+
+-- 10 of 100 bytes lost, and before that 10 of 1,000: 10^14 and 9 × 10^13
+weighed :
+    weighedLost (after (sent 0 0 0 ∷ sent 300000000 990 10 ∷ sent 600000000 90 10 ∷ [])) ≡ 1900000000000000
+    × weighedBytes (after (sent 0 0 0 ∷ sent 300000000 990 10 ∷ sent 600000000 90 10 ∷ [])) ≡ 100000000000000000
+unfolding fed heard reported completed running bytesOf lostOf latest aged exactSum
+weighed = (refl, refl)

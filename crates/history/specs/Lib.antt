@@ -1,0 +1,4 @@
+pub mod Calls
+pub mod History
+pub mod Window
+mod Examples
