@@ -9,6 +9,7 @@ if command -v rustc >/dev/null 2>&1; then
     oracle/levels.sh arithmetic replay
     oracle/levels.sh logarithm replay_logarithm
     oracle/levels.sh controller_steps replay_steps
+    oracle/levels.sh calls replay_calls
 else
     echo "no rustc: the oracle is skipped"
 fi

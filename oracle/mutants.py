@@ -9,6 +9,9 @@ lists that tell it, with the first line that differs. Exit status 1 if a mutant 
 Usage: oracle/mutants.py --steps. Prints which mutants the stored states of the controller's steps
 tell, among those that edit the vendored files or the steps; setters and first values are no part
 of a state, so that some go untold.
+
+Usage: oracle/mutants.py --calls [WORDS]. The same as with a directory, on the stored calls of the
+controller as call lists. Line reader and queue are no part of these, so that their mutants survive.
 """
 
 import concurrent.futures
@@ -155,16 +158,41 @@ def states():
     return 0
 
 
+def stored_calls():
+    """A directory with the stored calls of the controller as call lists, and the oracle's answers.
+    The reports of packets that no list can queue are left out; they are refused."""
+    directory = OUT.parent / "stored_calls"
+    shutil.rmtree(directory, ignore_errors=True)
+    directory.mkdir(parents=True)
+    lists, unasked = [], False
+    for line in (ROOT / "crates/replay_calls/stdin").read_text().splitlines():
+        kind, a, b, c = (int(field, 16) for field in line.split())
+        if kind == 0:
+            lists.append([])
+        elif kind != 8 and not unasked:
+            lists[-1].append(f"{kind:2}{a:20}{b:20}{c:6}\n")
+        unasked = kind == 8
+    for number, lines in enumerate(lists):
+        calls = directory / f"{number}.calls"
+        calls.write_text("".join(lines))
+        with open(calls, "rb") as stdin, open(calls.with_suffix(".answers"), "wb") as stdout:
+            subprocess.run([ROOT / "target/oracle/answer-2"], stdin=stdin, stdout=stdout, check=True)
+    return directory
+
+
 def main():
     if sys.argv[1:] == ["--steps"]:
         return states()
-    directory = pathlib.Path(sys.argv[1]) if len(sys.argv) > 1 else ORACLE / "sample"
+    for program in ("answer", "generate"):
+        subprocess.run([ORACLE / "build.sh", program], check=True, stdout=subprocess.DEVNULL)
+    if sys.argv[1:2] == ["--calls"]:
+        directory = stored_calls()
+    else:
+        directory = pathlib.Path(sys.argv[1]) if len(sys.argv) > 1 else ORACLE / "sample"
     words = sys.argv[2] if len(sys.argv) > 2 else ""
     lists = sorted(directory.glob("*.calls"))
     mutants = [mutant for mutant in read_mutants() if words in mutant["name"]]
     assert lists and mutants, "no lists or no mutants"
-    for program in ("answer", "generate"):
-        subprocess.run([ORACLE / "build.sh", program], check=True, stdout=subprocess.DEVNULL)
     counts = {}
     with concurrent.futures.ThreadPoolExecutor(os.cpu_count()) as pool:
         for mutant, (verdict, note, told) in zip(

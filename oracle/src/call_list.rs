@@ -69,6 +69,15 @@ impl Running {
     }
 }
 
+/// The two reads added by design, the loss ratio's bits and the count of observations, and the span
+/// of the hold in ns.
+#[allow(dead_code)]
+pub struct Reads {
+    pub ratio: u64,
+    pub count: u64,
+    pub hold: u64,
+}
+
 pub struct Program {
     controller: LossController,
     running: Running,
@@ -99,6 +108,22 @@ impl Program {
             Ok(Call::Report(bits)) => self.controller.into_judged(&self.queue, rate(bits)),
             _ => vec![],
         }
+    }
+
+    #[allow(dead_code)]
+    pub fn reads(&self) -> Reads {
+        Reads {
+            ratio: bits(self.controller.loss_ratio()),
+            count: self.controller.observation_count(),
+            hold: self.controller.hold(),
+        }
+    }
+
+    /// The answer to a report that is refused for packets that no line could queue.
+    #[allow(dead_code)]
+    pub fn refuse_report(&mut self, refusal: Code) -> Answer {
+        self.queue.clear();
+        self.after(refusal)
     }
 
     fn call(&mut self, call: Call) -> Result<(), Code> {

@@ -36,6 +36,7 @@ pub const KINDS: &[(&str, &str, Make)] = &[
     ("runaway", "zero bytes drive the rate above 2^64", targets::runaway),
     ("damaged", "lines out of shape among good ones", damaged::damaged),
     ("whole", "one list with something of every kind", whole::whole),
+    ("single", "one packet per observation", link::single),
 ];
 
 pub fn make(name: &str, seed: u64) -> Option<Vec<u8>> {

@@ -66,7 +66,8 @@ pub fn read(line: &[u8]) -> Result<Call, Code> {
     }
 }
 
-fn columns(line: &[u8]) -> Option<(u64, u64, u64, u64)> {
+/// Kind, A, B and C, whether or not they fit together.
+pub fn columns(line: &[u8]) -> Option<(u64, u64, u64, u64)> {
     if line.len() != LINE_LENGTH {
         return None;
     }

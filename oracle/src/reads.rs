@@ -17,6 +17,11 @@ impl LossController {
         self.num_observations
     }
 
+    /// The span of the last hold, in ns.
+    pub fn hold(&self) -> u64 {
+        self.last_hold_info.duration.as_nanos() as u64
+    }
+
     pub fn weights(&self) -> &[f64] {
         &self.temporal_weights
     }

@@ -10,3 +10,12 @@ pub data Claims : Type 1 where
 abbrev pub Hold : Claims → Type 0
 Hold none = Unit {0}
 Hold (claim computed stated rest) = (computed ≡ stated) × Hold rest
+
+-- one list after another
+abbrev pub also : Claims → Claims → Claims
+also none more = more
+also (claim computed stated rest) more = claim computed stated (also rest more)
+
+pub also-hold : (a b : Claims) → Hold a → Hold b → Hold (also a b)
+also-hold none b h k = k
+also-hold (claim computed stated rest) b h k = (h .0, also-hold rest b (h .1) k)

@@ -1,9 +1,10 @@
 -- What Rust's methods on f64 answer, where the library has no operation of that name. Definitions only.
 -- The library (lib.Ieee) already has: `finite` for is_finite, `isNan`, `toUnsigned 64` for `as u64`, `toSigned 63` for `as i64`,
 -- `ofBits` and `toBits`, which are total, with one NaN, written 7FF8000000000000.
-use Prim.Native.Nat.{ℕ, _+_, _-_, _*_, _/_}
+use Prim.Native.Nat.{ℕ, _+_, _-_, _*_, _/_, _^_}
 use mathlib.Core.Bool.{Bool, true, false, cond}
-use lib.Ieee.{Float, nan, inf, fin, binary64, up, down, round, isNan, lt, le}
+use lib.Dec.{leb}
+use lib.Ieee.{Float, nan, inf, fin, binary64, up, down, round, isNan, lt, le, toBits}
 
 -- f64::abs: the sign bit cleared
 unfoldable pub magnitude : Float → Float
@@ -34,3 +35,7 @@ unfoldable pub halfAway : Float → Float
 halfAway nan = nan
 halfAway (inf s) = inf s
 halfAway (fin s m e) = whole s ((2 * (m * up e) + down e) / (2 * down e))
+
+-- f64::is_sign_negative, of -0.0 too
+unfoldable pub signBit : Float → Bool
+signBit x = leb (2 ^ 63) (toBits binary64 x)

@@ -4,7 +4,7 @@ ghost use mathlib.Core.Path.{_≡_};
 ghost use mathlib.Core.Bool.{true, false};
 ghost use lib.Ieee.{binary64, inf, isNan, ofBits, toBits, toSigned, toUnsigned};
 ghost use lib.Ieee.Scale.{finite};
-ghost use Rattle.float.specs.Rust.{magnitude, minimum, maximum, ceiling, halfAway};
+ghost use Rattle.float.specs.Rust.{magnitude, minimum, maximum, ceiling, halfAway, signBit};
 ghost use Rattle.float.specs.Answer.{clamped};
 ghost use Rattle.float.specs.Order.{partialOrder};
 
@@ -227,4 +227,12 @@ pub fn to_bits(x: f64) -> u64
         return 0x7FF8_0000_0000_0000;
     }
     f64::to_bits(x)
+}
+
+// The sign bit, of -0.0 too. Whichever NaN, its bit is clear.
+pub fn is_sign_negative(x: f64) -> bool
+    ensures { λ r. ⌜ r ≡ signBit x ⌝ }
+{
+    let bits = to_bits(x);
+    0x8000_0000_0000_0000 <= bits
 }

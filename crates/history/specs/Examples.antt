@@ -20,9 +20,9 @@ sent time arrived lost = taken (report (time ∷ 0 ∷ []) (arrived ∷ lost ∷
 -- the first report sets the time; a span of 250,000,000 ns completes none, and 250,000,001 one, of the bytes so far
 spans :
     after (sent 5 90 10 ∷ sent 250000005 1 0 ∷ []) ≡
-    record { pairs = []; running = record { bytes = 101; lost = 10 }; time = some 5; on = false; count = 0 }
+    record { pairs = []; running = record { bytes = 101; lost = 10 }; packets = 4; time = some 5; on = false; count = 0 }
     × after (sent 5 90 10 ∷ sent 250000006 1 0 ∷ []) ≡
-    record { pairs = record { bytes = 101; lost = 10 } ∷ []; running = record { bytes = 0; lost = 0 }; time = some 250000006; on = false; count = 1 }
+    record { pairs = record { bytes = 101; lost = 10 } ∷ []; running = record { bytes = 0; lost = 0 }; packets = 0; time = some 250000006; on = false; count = 1 }
 unfolding fed heard reported completed running bytesOf lostOf latest
 spans = (refl, refl)
 
@@ -41,9 +41,9 @@ unchanged = refl
 -- on empties all but the count, on again changes nothing, off empties again
 changes :
     after (sent 5 90 10 ∷ sent 250000006 1 0 ∷ sent 250000007 2 0 ∷ taken (alr (some 1)) ∷ []) ≡
-    record { pairs = []; running = record { bytes = 0; lost = 0 }; time = none; on = true; count = 1 }
+    record { pairs = []; running = record { bytes = 0; lost = 0 }; packets = 0; time = none; on = true; count = 1 }
     × after (taken (alr (some 1)) ∷ sent 5 90 10 ∷ taken (alr (some 2)) ∷ []) ≡
-    record { pairs = []; running = record { bytes = 100; lost = 10 }; time = some 5; on = true; count = 0 }
+    record { pairs = []; running = record { bytes = 100; lost = 10 }; packets = 2; time = some 5; on = true; count = 0 }
     × after (taken (alr (some 1)) ∷ sent 5 90 10 ∷ taken (alr none) ∷ []) ≡ fresh
 unfolding fed heard switched reported completed running bytesOf lostOf latest
 changes = (refl, refl, refl)

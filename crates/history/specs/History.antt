@@ -13,10 +13,11 @@ pub record Pair : Type 0 where
   pub bytes : ℕ
   pub lost : ℕ
 
--- "pairs newest first, a running pair, a time, ALR on or off, a count"
+-- "pairs newest first, a running pair, a time, ALR on or off, a count"; and how many packets the running pair is of, which code 10 asks
 pub record History : Type 0 where
   pub pairs : List Pair
   pub running : Pair
+  pub packets : ℕ
   pub time : Option ℕ
   pub on : Bool
   pub count : ℕ
@@ -26,7 +27,7 @@ nothing = record { bytes = 0; lost = 0 }
 
 -- "fresh: none, (0, 0), none, off, 0"
 abbrev pub fresh : History
-fresh = record { pairs = []; running = nothing; time = none; on = false; count = 0 }
+fresh = record { pairs = []; running = nothing; packets = 0; time = none; on = false; count = 0 }
 
 -- ---- ALR
 
@@ -38,7 +39,7 @@ isOn (some start) = true
 unfoldable pub switched : History → Bool → History
 switched h on =
     cond (Bool·beq (h .on) on) h
-    (record { pairs = fresh .pairs; running = fresh .running; time = fresh .time; on = on; count = h .count })
+    (record { pairs = fresh .pairs; running = fresh .running; packets = fresh .packets; time = fresh .time; on = on; count = h .count })
 
 -- ---- a report
 
@@ -67,14 +68,14 @@ heldOr (some time) sent = time
 
 -- "the running pair becomes the newest, a sixteenth pair is dropped, the running pair becomes (0, 0), the time that send time, the count one more"
 unfoldable pub completed : History → Pair → ℕ → History
-completed h p sent = record { pairs = take 15 (p ∷ h .pairs); running = nothing; time = some sent; on = h .on; count = h .count + 1 }
+completed h p sent = record { pairs = take 15 (p ∷ h .pairs); running = nothing; packets = 0; time = some sent; on = h .on; count = h .count + 1 }
 
-unfoldable pub running : History → Pair → ℕ → History
-running h p time = record { pairs = h .pairs; running = p; time = some time; on = h .on; count = h .count }
+unfoldable pub running : History → Pair → ℕ → ℕ → History
+running h p packets time = record { pairs = h .pairs; running = p; packets = packets; time = some time; on = h .on; count = h .count }
 
 -- "Where that send time exceeds the time by more than 250,000,000 ns, an observation completes"
-unfoldable pub reported : History → Pair → ℕ → ℕ → History
-reported h p time sent = cond (ltb (time + 250000000) sent) (completed h p sent) (running h p time)
+unfoldable pub reported : History → Pair → ℕ → ℕ → ℕ → History
+reported h p packets time sent = cond (ltb (time + 250000000) sent) (completed h p sent) (running h p packets time)
 
 -- ---- one call, and a list of them, oldest first
 
@@ -86,7 +87,7 @@ heard h (alr start) = switched h (isOn start)
 heard h (capacity rate) = h
 heard h (report times sizes flags delay) =
     cond (eqb (length times) 0) h
-    (reported h (added (h .running) sizes flags) (heldOr (h .time) (latest times)) (latest times))
+    (reported h (added (h .running) sizes flags) (h .packets + length times) (heldOr (h .time) (latest times)) (latest times))
 heard h read = h
 
 -- "Refused [..]: no change"

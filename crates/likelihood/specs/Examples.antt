@@ -6,7 +6,7 @@ use mathlib.Core.Bool.{Bool, true, false}
 use mathlib.Core.List.{List, [], _∷_, map}
 use lib.Ieee.{Float, binary64, add, div, eq, isNan, le, lt, mul, ofBits, ofInt, sub, toBits}
 use Rattle.float.specs.Rounded.{bits, _⊕_, _⊗_, _⊘_}
-use Rattle.float.specs.Rust.{magnitude, maximum, minimum}
+use Rattle.float.specs.Rust.{magnitude, maximum, minimum, signBit}
 use Rattle.float.specs.Answer.{answered, clamped}
 use Rattle.float.specs.declared.FloatAnswer.{FloatAnswer}
 use Rattle.bandwidth.specs.declared.Bitrate.{Bitrate}
@@ -15,7 +15,7 @@ use Rattle.logarithm.specs.Ln.{logarithm}
 use Rattle.logarithm.specs.Power.{power}
 use Rattle.likelihood.specs.Feasible.{upperBound, feasible}
 use Rattle.likelihood.specs.Probability.{congested, probability}
-use Rattle.likelihood.specs.Newton.{safe, signBit, addDerivatives, derivatives, newton}
+use Rattle.likelihood.specs.Newton.{safe, addDerivatives, derivatives, newton}
 use Rattle.likelihood.specs.Bias.{adjusted, bias}
 use Rattle.likelihood.specs.Objective.{addTerms, objective}
 use Rattle.likelihood.specs.declared.ChannelParameters.{ChannelParameters}

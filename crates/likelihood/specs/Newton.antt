@@ -1,10 +1,9 @@
 -- The derivatives of the likelihood and Newton's step on the inherent loss. Definitions only.
-use Prim.Native.Nat.{_^_}
-use mathlib.Core.Bool.{Bool, cond, not, _||_}
+use mathlib.Core.Bool.{cond, not, _||_}
 use mathlib.Core.List.{List, foldl}
-use lib.Dec.{leb}
-use lib.Ieee.{Float, binary64, eq, isNan, toBits}
+use lib.Ieee.{Float, eq, isNan}
 use Rattle.float.specs.Rounded.{bits, _⊕_, _⊖_, _⊗_, _⊘_}
+use Rattle.float.specs.Rust.{signBit}
 use Rattle.logarithm.specs.Ln.{one}
 use Rattle.logarithm.specs.Power.{power}
 use Rattle.config.specs.Config.{«newton_step_size»}
@@ -13,10 +12,6 @@ use Rattle.likelihood.specs.Probability.{rowProbability}
 use Rattle.likelihood.specs.declared.ChannelParameters.{ChannelParameters}
 use Rattle.likelihood.specs.declared.Derivatives.{Derivatives}
 use Rattle.likelihood.specs.declared.Row.{Row}
-
--- f64::is_sign_negative, of -0.0 too
-unfoldable pub signBit : Float → Bool
-signBit x = leb (2 ^ 63) (toBits binary64 x)
 
 -- A second derivative that is zero, NaN or without a sign bit becomes -0.000001 ("Corners, file by file")
 unfoldable pub safe : Float → Float

@@ -3,7 +3,7 @@
 ghost use mathlib.Core.Path.{_≡_};
 ghost use Rattle.likelihood.specs.Feasible.{upperBound, feasible};
 ghost use Rattle.likelihood.specs.Probability.{congested, probability};
-ghost use Rattle.likelihood.specs.Newton.{signBit, safe, addDerivatives, derivatives, newton};
+ghost use Rattle.likelihood.specs.Newton.{safe, addDerivatives, derivatives, newton};
 ghost use Rattle.likelihood.specs.Bias.{adjusted, bias as biasOf};
 ghost use Rattle.likelihood.specs.Objective.{addTerms, objective};
 use bandwidth::Bitrate;
@@ -92,18 +92,11 @@ pub fn get_loss_probability(
 
 const SAFE_SECOND_DERIVATIVE: f64 = -1.0e-6;
 
-fn is_sign_negative(x: f64) -> bool
-    ensures { λ r. ⌜ r ≡ signBit x ⌝ }
-{
-    let bits = float::to_bits(x);
-    0x8000_0000_0000_0000 <= bits
-}
-
 // Floating-point edge cases would turn the Newton step round, or divide it by 0.
 fn safe_second_derivative(second: f64) -> f64
     ensures { λ r. ⌜ r ≡ safe second ⌝ }
 {
-    if !is_sign_negative(second) {
+    if !float::is_sign_negative(second) {
         return SAFE_SECOND_DERIVATIVE;
     }
     if second == 0.0 {

@@ -1,110 +1,133 @@
--- Worked examples of the definitions beside this file, which antt computes; the answers are those of the Rust. They test the definitions; no proof
--- cites them.
-use Prim.Native.Nat.{ℕ, _^_, _-_}
+-- Worked examples of the definitions beside this file, which antt computes; the answers are those of the Rust with document 01's logarithm and
+-- powers. They test the definitions; no proof cites them.
+use Prim.Native.Nat.{ℕ, _^_}
 use mathlib.Core.Path.{_≡_, refl}
 use mathlib.Core.List.{List, [], _∷_, map}
-use lib.Ieee.{binary64, add, div, eq, isNan, le, lt, mul, ofBits, ofInt, toBits}
+use lib.IntN.{pos}
+use lib.Ieee.{binary64, add, div, eq, inFloat, isNan, le, lt, mul, ofBits, ofInt, sub, toBits}
+use lib.ListN.{replicate}
 use Rattle.float.specs.Rounded.{bits}
-use Rattle.float.specs.Rust.{minimum, maximum}
-use Rattle.integer.specs.Fitted.{ordered}
-use Rattle.duration.specs.Seconds.{seconds, fitted, nearestNanos, fromSeconds}
+use Rattle.float.specs.Rust.{maximum, minimum, signBit}
 use Rattle.bandwidth.specs.Rate as Rate
-use Rattle.time.specs.Nanos as Nanos
+use Rattle.bandwidth.specs.declared.OptionBitrate.{OptionBitrate}
+use Rattle.bandwidth.specs.declared.OptionBitrate.the-variants.{Some, None}
+use Rattle.likelihood.specs.Bias as Bias
+use Rattle.likelihood.specs.Feasible as Feasible
+use Rattle.likelihood.specs.Newton as Newton
+use Rattle.likelihood.specs.Objective as Objective
+use Rattle.likelihood.specs.Probability as Probability
+use Rattle.logarithm.specs.Ln as Ln
+use Rattle.logarithm.specs.Power as Power
+use Rattle.candidates.specs.Bound as Bound
+use Rattle.candidates.specs.Candidate as Candidate
+use Rattle.candidates.specs.Choice as Choice
+use Rattle.estimator.specs.Hold as Hold
+use Rattle.estimator.specs.Increase as Increase
+use Rattle.estimator.specs.Update as Update
+use Rattle.estimator.specs.Window as Recovery
+use Rattle.time.specs.Delta as Delta
 use Rattle.time.specs.Time as Time
-use Rattle.time.specs.declared.Timestamp.{Timestamp}
-use Rattle.time.specs.declared.Timestamp.the-variants.{DistantPast, Exact, DistantFuture}
-use Rattle.loss_controller.specs.State.{number}
-use Rattle.loss_controller.specs.Hold as Hold
-use Rattle.loss_controller.specs.Window as Window
-use Rattle.loss_controller.specs.Increase as Increase
-use Rattle.loss_controller.specs.Update as Update
-use Rattle.loss_controller.specs.declared.LossControllerState.the-variants.{DelayBased}
-use Rattle.loss_controller.specs.declared.Estimator.{Estimator}
-use Rattle.loss_controller.specs.declared.EstimatorAnswer.{EstimatorAnswer}
+use Rattle.time.specs.Nanos as Nanos
+use Rattle.observation.specs.Ratio as Ratio
+use Rattle.observation.specs.Rows as Rows
+use Rattle.observation.specs.Partial as Partial
+use Rattle.bandwidth.specs.Size as Size
+use Rattle.integer.specs.Fitted as Fitted
+use Rattle.duration.specs.Seconds as Seconds
+use Rattle.rounding.specs.Ratio as Loss
+use Rattle.float.specs.Answer as Answer
+use Rattle.packets.specs.Summary.{columnsRefusal, packets, packetRefusal, addPacket, summaryOf}
+use Rattle.observation.specs.Window as Window
+use Rattle.estimator.specs.State.{number}
+use Rattle.loss_controller.specs.Controller.{initial, answered, refused, withObservations, withEstimator, withInputs}
+use Rattle.loss_controller.specs.Setters as Setters
+use Rattle.loss_controller.specs.Report as Report
+use Rattle.loss_controller.specs.Result as Result
+use Rattle.loss_controller.specs.declared.OptionInstant.the-variants.{Some as On, None as Off}
+use Rattle.loss_controller.specs.declared.LossController.{LossController}
+use Rattle.loss_controller.specs.declared.ControllerAnswer.{ControllerAnswer}
 
--- the next span of a hold: the nearest ns of twice its seconds, 60 s from 30 s on, however long it is
-doubled-examples :
-    map (λ n. Hold.doubled (record { nanos = n }) .nanos) (300000000 ∷ 1 ∷ 123456789 ∷ 29999999999 ∷ 30000000000 ∷ 18446744073709551615 ∷ []) ≡
-    600000000 ∷ 2 ∷ 246913578 ∷ 59999999998 ∷ 60000000000 ∷ 60000000000 ∷ []
-unfolding add div eq le lt mul ofBits ofInt seconds fitted nearestNanos fromSeconds Hold.twice Hold.doubled
-doubled-examples = refl
+-- ---- codes 2 and 3
 
--- a time in ns, DistantPast as 0
-nanos : Timestamp → ℕ
-nanos DistantPast = 0
-nanos (Exact i) = i
-nanos DistantFuture = 1
+ten-to-15 : Setters.mostRate ≡ ofInt binary64 (pos (10 ^ 15))
+unfolding ofBits ofInt
+ten-to-15 = refl
 
--- state, rate, hold (end, span, rate), last reduction, window (start, limit); rates as their bits
-view : Estimator → List ℕ
-unfolding nanos
-view e =
-    number (e .state)
-    ∷ toBits binary64 (Increase.current e .bps)
-    ∷ nanos (e .«last_hold_info» .timestamp)
-    ∷ e .«last_hold_info» .duration .nanos
-    ∷ toBits binary64 (e .«last_hold_info» .rate .bps)
-    ∷ nanos (e .recovery .«last_time_estimate_reduced»)
-    ∷ nanos (e .recovery .«recovering_after_loss_timestamp»)
-    ∷ toBits binary64 (e .recovery .«bandwidth_limit_in_current_window» .bps)
-    ∷ []
+-- 0, 10^15, the next float, infinity, a NaN; -0.0, -1.0, minus infinity
+rates :
+    map (λ n. Setters.rateRefusal (Rate.rate (bits n)))
+    (0 ∷ 0x430C6BF526340000 ∷ 0x430C6BF526340001 ∷ 0x7FF0000000000000 ∷ 0xFFF8000000000001 ∷ 0x8000000000000000 ∷ 0xBFF0000000000000 ∷ 0xFFF0000000000000 ∷ []) ≡
+    0 ∷ 0 ∷ 2 ∷ 0 ∷ 0 ∷ 2 ∷ 2 ∷ 0 ∷ []
+unfolding Setters.rateRefusal signBit lt ofBits toBits
+rates = refl
 
--- one report: the best candidate's rate, at inherent loss 0.02, the ratio, the acknowledged rate and the delay estimate by their bits, and the time
-answer : ℕ → ℕ → ℕ → ℕ → ℕ → Estimator → EstimatorAnswer
-answer best ratio acknowledged delay t e =
-    Update.applied e (record { «inherent_loss» = bits 0x3F947AE147AE147B; «loss_limited_bandwidth» = Rate.rate (bits best) })
-    (record {
-      «average_reported_loss_ratio» = bits ratio;
-      «acknowledged_bitrate» = Rate.rate (bits acknowledged);
-      «delay_based_estimate» = Rate.rate (bits delay);
-      «last_send_time» = Exact t;
-    })
+times : map Setters.timeRefusal (0 ∷ 4000000000000000000 ∷ 4000000000000000001 ∷ []) ≡ 0 ∷ 0 ∷ 3 ∷ []
+unfolding Setters.timeRefusal
+times = refl
 
-report : ℕ → ℕ → ℕ → ℕ → ℕ → Estimator → Estimator
-unfolding answer
-report best ratio acknowledged delay t e = answer best ratio acknowledged delay t e .estimator
+-- ---- the example of document 01, as state, published, rate and inherent loss of an answer line
 
--- a fresh estimator at 600,000 bit/s
-started : Estimator
-started =
-    record {
-      state = DelayBased;
-      «current_estimate» = record { «inherent_loss» = bits 0x3F847AE147AE147B; «loss_limited_bandwidth» = Rate.rate (bits 0x41224F8000000000) };
-      «last_hold_info» = Hold.initial;
-      recovery = Window.initial;
-    }
+abbrev rateBits : OptionBitrate → List ℕ
+rateBits (Some r) = 1 ∷ toBits binary64 (r .bps) ∷ []
+rateBits None = 0 ∷ 0 ∷ []
 
-run : Estimator → List (Estimator → Estimator) → List (List ℕ)
-unfolding view
-run e [] = []
-run e (f ∷ fs) = view (f e) ∷ run (f e) fs
+line : LossController → List ℕ
+unfolding Result.published Result.lossBasedResult
+line c = number (Result.lossBasedResult c .state) ∷ toBits binary64 (Result.inherentLoss c) ∷ rateBits (Result.lossBasedResult c .«bandwidth_estimate»)
 
--- 570,000 bit/s enter Decreasing, the hold and a window; the hold caps 580,000; at its end, and above the inherent loss, nothing rises; 1,000,000 with
--- 400,000 acknowledged are 1 bit/s more, Increasing and a new window; its limit bounds 2,000,000; 500,000 enter the next hold; 900,000 are above the
--- delay estimate, so that DelayBased resets the hold
-run-examples :
-    run started
-    (report 0x4121652000000000 0x3FB999999999999A 0x411E848000000000 0x412E848000000000 1000000000
-    ∷ report 0x4121B34000000000 0x3F847AE147AE147B 0x411E848000000000 0x412E848000000000 1250000000
-    ∷ report 0x4121B34000000000 0x3F9EB851EB851EB8 0x411E848000000000 0x412E848000000000 1300000000
-    ∷ report 0x412E848000000000 0x3F847AE147AE147B 0x41186A0000000000 0x412E848000000000 1600000000
-    ∷ report 0x413E848000000000 0x3F847AE147AE147B 0x7FF0000000000000 0x412E848000000000 1850000000
-    ∷ report 0x411E848000000000 0x3F847AE147AE147B 0x41186A0000000000 0x412E848000000000 2200000000
-    ∷ report 0x412B774000000000 0x3F847AE147AE147B 0x41286A0000000000 0x41286A0000000000 3000000000
-    ∷ []) ≡
-    (2 ∷ 0x4121652000000000 ∷ 1300000000 ∷ 600000000 ∷ 0x4121652000000000 ∷ 1000000000 ∷ 1000000000 ∷ 0x41269D1000000000 ∷ [])
-    ∷ (2 ∷ 0x4121652000000000 ∷ 1300000000 ∷ 600000000 ∷ 0x4121652000000000 ∷ 1000000000 ∷ 1000000000 ∷ 0x41269D1000000000 ∷ [])
-    ∷ (2 ∷ 0x4121652000000000 ∷ 1300000000 ∷ 600000000 ∷ 0x4121652000000000 ∷ 1000000000 ∷ 1000000000 ∷ 0x41269D1000000000 ∷ [])
-    ∷ (1 ∷ 0x4121652200000000 ∷ 1300000000 ∷ 600000000 ∷ 0x4121652000000000 ∷ 1000000000 ∷ 1600000000 ∷ 0x41269D129999999A ∷ [])
-    ∷ (1 ∷ 0x41269D129999999A ∷ 1300000000 ∷ 600000000 ∷ 0x4121652000000000 ∷ 1000000000 ∷ 1600000000 ∷ 0x41269D129999999A ∷ [])
-    ∷ (2 ∷ 0x411E848000000000 ∷ 2800000000 ∷ 1200000000 ∷ 0x411E848000000000 ∷ 2200000000 ∷ 2200000000 ∷ 0x4123D62000000000 ∷ [])
-    ∷ (0 ∷ 0x412B774000000000 ∷ 0 ∷ 300000000 ∷ 0x7FF0000000000000 ∷ 2200000000 ∷ 2200000000 ∷ 0x4123D62000000000 ∷ [])
-    ∷ []
-unfolding add div eq isNan le lt mul ofBits ofInt toBits minimum maximum ordered seconds fitted nearestNanos fromSeconds Rate.larger Rate.smaller Rate.times Rate.plus Nanos.fitted Time.plus Time.order Hold.twice Hold.doubled Hold.entered Window.windowEnd Window.isAboveLimit Window.bounded Window.isOver Window.opened Window.renewed Increase.notIncreasedAboveInherentLoss Increase.isEstimateIncreasingWhenLossLimited Increase.rampupFactor Increase.withinRampup Increase.rampedUp Increase.increaseLimitedDueToLoss Increase.increaseLimited Update.firstRefusal Update.withReductionNoted Update.isInHold Update.held Update.isLimiting Update.newState Update.newHoldInfo Update.withNewState Update.decided Update.updated Update.applied nanos view report started run
-run-examples = refl
+abbrev estimated : ℕ → LossController
+estimated n = Setters.setBandwidthEstimate initial (Rate.rate (bits n)) .controller
 
--- a hold entered at the last instant would end at none: refused, and unchanged, though the rate is a reduction
-refused-example :
-    answer 0x4121652000000000 0x3FB999999999999A 0x411E848000000000 0x412E848000000000 (2 ^ 64 - 1) started ≡ Update.unchanged started 7
-unfolding add isNan eq le lt mul ofBits maximum ordered Rate.larger Rate.times Nanos.fitted Time.plus Time.order Hold.entered Window.windowEnd Window.isOver Window.opened Window.renewed Increase.notIncreasedAboveInherentLoss Increase.isEstimateIncreasingWhenLossLimited Increase.increaseLimited Update.firstRefusal Update.withReductionNoted Update.isInHold Update.isLimiting Update.newState Update.newHoldInfo Update.withNewState Update.decided Update.updated Update.applied answer started
-refused-example = refl
+example : line (estimated 4696837146684686336) ≡ 0 ∷ 4576918229304087675 ∷ 1 ∷ 4696837146684686336 ∷ []
+    × line initial ≡ 0 ∷ 4576918229304087675 ∷ 0 ∷ 0 ∷ []
+unfolding line Setters.rateRefusal Setters.setBandwidthEstimate withEstimator Window.cleared signBit lt ofBits toBits
+example = (refl, refl)
+
+-- ---- ALR
+
+-- on, and on again: the start is stored, the observations are reset at the first alone; off resets them
+alr :
+    let on = Setters.setAlrStartTime initial (On 5) .controller in
+    Setters.setAlrStartTime on (On 7) ≡ answered (Setters.withAlrStartTime on (On 7))
+    × Setters.setAlrStartTime on Off ≡ answered (Setters.resetObservations (Setters.withAlrStartTime on Off))
+    × Setters.setAlrStartTime on (On 4000000000000000001) ≡ refused on 3
+unfolding Setters.setAlrStartTime Setters.withAlrStartTime Setters.resetObservations Setters.startRefusal Setters.timeRefusal withInputs withObservations
+alr = (refl, refl, refl)
+
+-- ---- a report
+
+abbrev megabit : ℕ
+megabit = 0x412E848000000000
+
+abbrev report : List ℕ → List ℕ → List ℕ → ℕ → ControllerAnswer
+report times sizes flags delay = Report.updateBandwidthEstimate initial times sizes flags (Rate.rate (bits delay))
+
+-- its refusals in their order: 4 before 5, 5 before 2, 2 before a packet's 3, 3 before its 8
+order :
+    report (replicate 4097 0) (replicate 4096 0) (replicate 4097 0) 0x8000000000000000 ≡ refused initial 4
+    × report (replicate 4097 0) (replicate 4097 0) (replicate 4097 0) 0x8000000000000000 ≡ refused initial 5
+    × report (4000000000000000001 ∷ []) (9 ∷ []) (2 ∷ []) 0x8000000000000000 ≡ refused initial 2
+    × report (4000000000000000001 ∷ []) (9 ∷ []) (2 ∷ []) megabit ≡ refused initial 3
+    × report (0 ∷ []) (9 ∷ []) (2 ∷ []) megabit ≡ refused initial 8
+unfolding Report.updateBandwidthEstimate Setters.rateRefusal columnsRefusal packets packetRefusal addPacket summaryOf signBit lt ofBits toBits
+order = (refl, refl, refl, refl, refl)
+
+-- an empty one stores the delay estimate and does no more
+empty : Report.updateBandwidthEstimate initial [] [] [] (Rate.rate (bits megabit)) ≡ answered (Report.withDelayBasedEstimate initial (Rate.rate (bits megabit)))
+unfolding Report.updateBandwidthEstimate Report.reported Setters.rateRefusal columnsRefusal packets summaryOf signBit lt ofBits toBits
+empty = refl
+
+-- ---- a whole report: 2 Mbit/s estimated, 1.5 acknowledged, 3 from the delay controller; 9,000 of 70,200 bytes lost in 0.3 s
+
+abbrev told : LossController
+told = Setters.setAcknowledgedBitrate (estimated 0x413E848000000000) (Rate.rate (bits 0x4136E36000000000)) .controller
+
+abbrev reported : LossController → List ℕ → List ℕ → List ℕ → LossController
+reported c times sizes flags = Report.updateBandwidthEstimate c times sizes flags (Rate.rate (bits 0x4146E36000000000)) .controller
+
+-- the state is Decreasing, and the ceiling is published
+decreasing :
+    line (reported (reported told (0 ∷ []) (1200 ∷ []) (0 ∷ [])) (300000000 ∷ 300000001 ∷ []) (60000 ∷ 9000 ∷ []) (0 ∷ 1 ∷ [])) ≡
+    2 ∷ 4580551374841200862 ∷ 1 ∷ 4698242737114942079 ∷ []
+unfolding line Bias.adjusted Bias.bias Feasible.upperBound Feasible.feasible Newton.safe Newton.addDerivatives Newton.derivatives Newton.newton Objective.addTerms Objective.objective Probability.congested Probability.probability Ln.logarithmOfBits Ln.logarithm Power.powerSteps Power.power Power.weight Bound.atMost Bound.capacity Bound.inWindow Bound.acceleration Bound.upperBound Candidate.scaled Candidate.above Candidate.bandwidths Candidate.cut Candidate.candidate Candidate.placed Candidate.candidates Choice.judged Choice.better Choice.answered Choice.used Choice.choice Hold.twice Hold.doubled Hold.entered Increase.notIncreasedAboveInherentLoss Increase.isEstimateIncreasingWhenLossLimited Increase.rampupFactor Increase.withinRampup Increase.rampedUp Increase.increaseLimitedDueToLoss Increase.increaseLimited Update.firstRefusal Update.withReductionNoted Update.isInHold Update.held Update.isLimiting Update.newState Update.newHoldInfo Update.withNewState Update.decided Update.updated Update.applied Recovery.windowEnd Recovery.isAboveLimit Recovery.bounded Recovery.isOver Recovery.opened Recovery.renewed Delta.difference Delta.inSeconds Delta.order Delta.rate Delta.larger Delta.plus Time.since Time.plus Time.order Nanos.fitted Ratio.age Ratio.window Ratio.readable Ratio.reported Ratio.instantLimit Ratio.instantUpperBound Ratio.validOrMax Ratio.cached Rows.rowOf Rows.row Rows.rows Window.cleared Window.reference Window.completes Window.full Window.observed Window.stored Window.withCeiling Window.withPartial Window.renewed Window.completed Window.added Partial.updated Rate.over Rate.smaller Rate.larger Rate.times Rate.plus Rate.minus Size.kilobytes Size.float Fitted.ordered Fitted.fitted Fitted.inI64 Seconds.seconds Seconds.nearestNanos Seconds.fromSeconds Seconds.fitted Loss.lossRatio Answer.clamped Report.bounds Report.report Report.updatedEstimator Report.hasValidEstimate Report.observed Report.withDelayBasedEstimate Report.reported Report.updateBandwidthEstimate Setters.rateRefusal Setters.setBandwidthEstimate Setters.setAcknowledgedBitrate columnsRefusal packets packetRefusal addPacket summaryOf withObservations withEstimator withInputs maximum minimum signBit add div eq inFloat isNan le lt mul ofBits ofInt sub toBits Rattle.float.specs.Rust.magnitude
+decreasing = refl

@@ -1,7 +1,6 @@
-pub mod State
-pub mod Hold
-pub mod Window
-pub mod Increase
-pub mod Update
+pub mod Controller
+pub mod Setters
+pub mod Report
+pub mod Result
 pub mod Starred
 mod Examples

@@ -1,13 +1,28 @@
--- Document 01's starred value for the hold: after 38.4 s it is 60 s. Assumes nothing.
-use mathlib.Core.Path.{refl}
-use lib.Ieee.{add, div, le, mul, ofBits, ofInt}
-use Rattle.float.specs.Claims.{Claims, none, claim, Hold}
-use Rattle.duration.specs.Seconds.{seconds}
-use Rattle.loss_controller.specs.Hold.{twice, doubled}
+-- Document 01's starred values ("Values to hold"), all in one statement over the list of them. Each crate has its part in a module of this name.
+-- Assumes nothing.
+use Rattle.float.specs.Claims.{Claims, Hold, also, also-hold}
+use Rattle.observation.specs.Starred as Observation
+use Rattle.bandwidth.specs.Starred as Bandwidth
+use Rattle.logarithm.specs.Starred as Logarithm
+use Rattle.time.specs.Starred as Time
+use Rattle.estimator.specs.Starred as Estimator
 
+abbrev fromTime : Claims
+fromTime = also Time.starred Estimator.starred
+
+abbrev fromLogarithm : Claims
+fromLogarithm = also Logarithm.starred fromTime
+
+abbrev fromBandwidth : Claims
+fromBandwidth = also Bandwidth.starred fromLogarithm
+
+-- the two spans and the two ceilings; 125,000 bytes in 500 ms; ln 1 and ln 2; the five infinite times; the hold after 38.4 s
 abbrev pub starred : Claims
-starred = claim (doubled (record { nanos = 38400000000 })) (record { nanos = 60000000000 }) none
+starred = also Observation.starred fromBandwidth
 
 pub starred-hold : Hold starred
-unfolding add div le mul ofBits ofInt seconds twice doubled
-starred-hold = (refl, tt)
+starred-hold =
+    also-hold Observation.starred fromBandwidth Observation.starred-hold
+    (also-hold Bandwidth.starred fromLogarithm Bandwidth.starred-hold
+    (also-hold Logarithm.starred fromTime Logarithm.starred-hold
+    (also-hold Time.starred Estimator.starred Time.starred-hold Estimator.starred-hold)))

@@ -163,6 +163,17 @@ fn late(link: &Link, random: &mut Random, list: &mut List) {
     list.packet(time, random.below(2) == 0, random.below(65_536));
 }
 
+/// An observation in three lines.
+pub fn single(random: &mut Random, list: &mut List) {
+    let mut link = Link::new(random, list);
+    for _ in 0..150 {
+        link.drift(random, list);
+        let span = span(random);
+        link.packets(random, list, span, 1);
+        link.report(random, list);
+    }
+}
+
 pub fn dense(random: &mut Random, list: &mut List) {
     let mut link = Link::new(random, list);
     for _ in 0..25 {

@@ -1,0 +1,180 @@
+-- The fifteen slots that a history's pairs make: how a new observation turns them, and that what the loss ratio reads of them is the history's window
+-- in another order. Assumes nothing.
+use Prim.Native.Nat.{ℕ, zero, suc, _+_, _-_, _%_, _^_, _≤_, _<_}
+use mathlib.Core.Path.{_≡_, refl, sym, ap, _∙_}
+use mathlib.Core.Logic.{inl, inr}
+use mathlib.Core.Bool.{Bool, true, false, cond}
+use mathlib.Core.List.{List, [], _∷_, _++_, map, reverse, reverseAux, filterMap, append-nil, reverse-cons, reverse-append}
+use mathlib.Core.List.{List·Permᴰ, List·Permᴰ·trans, Permᴰ·append-left, Permᴰ·append-right, Permᴰ·reverse, Permᴰ·filterMap}
+use mathlib.Core.Option.{Option, none, some, Option·elim}
+use native.Mathlib.Nat.{zero-add, add-zero, eq-or-lt-of-le}
+use native.Mathlib.Omega.{arith}
+use borrow.Author.Tests.{lt-ltb, le-leb}
+use lib.IntN.{pos}
+use lib.Ieee.{binary64, inFloat}
+use lib.ListN.{length, take, drop, set, replicate, length-reverse, length-replicate, take-append-drop, replicate-append-replicate}
+use lib.Seq.{take-length, drop-length, take-append-le, drop-append-le, length-take-le, take-at, drop-at, set-at, append-snoc}
+use Rattle.rounding.specs.Exact.{Measured, AllSound}
+use Rattle.rounding.proofs.AnyOrder.{sound-perm}
+use Rattle.observation.specs.Ratio as Ratio
+use Rattle.observation.specs.Window.{dummy}
+use Rattle.observation.specs.declared.Observation.{Observation}
+use Rattle.history.specs.History.{Pair}
+use Rattle.history.specs.Window.{aged}
+use Rattle.history.proofs.Kept.{Within, aged-sound}
+
+-- ---- a list turned at r: the first r backwards, then the others backwards
+module _ {A : Type 0} where
+  unfoldable pub turned : ℕ → List A → List A
+  turned r l = reverse (take r l) ++ reverse (drop r l)
+
+  turned-perm : (r : ℕ) (l : List A) → List·Permᴰ (turned r l) l
+  unfolding turned
+  turned-perm r l =
+      List·Permᴰ·trans (Permᴰ·append-right (reverse (drop r l)) (Permᴰ·reverse (take r l)))
+      (rw (take-append-drop r l) at (Permᴰ·append-left (take r l) (Permᴰ·reverse (drop r l))))
+
+  -- to set place r is to drop the last, which stands there, and to put another first
+  turned-set : (l : List A) (x v : A) (r : ℕ) → r ≤ length l → set (turned r (l ++ (x ∷ []))) r v ≡ turned (suc r) (v ∷ l)
+  unfolding turned
+  turned-set l x v r h =
+      rw (take-append-le r l (x ∷ []) h, drop-append-le r l (x ∷ []) h, reverse-append (drop r l) (x ∷ []), reverse-cons v (take r l))
+      (set-at (reverse (take r l)) x (reverse (drop r l)) v r (length-reverse (take r l) ∙ length-take-le r l h) ∙ sym (append-snoc (reverse (take r l)) v (reverse (drop r l))))
+
+  turned-all : (l : List A) → turned (length l) l ≡ turned 0 l
+  unfolding turned
+  turned-all l = rw (take-length l, drop-length l) (append-nil (reverse l))
+
+  turned-next : (n : ℕ) (l : List A) → length l ≡ 15 → turned (suc (n % 15)) l ≡ turned ((n + 1) % 15) l
+  turned-next n l h =
+      let most : n % 15 ≤ 14 = omega arith in
+      elim (eq-or-lt-of-le most) [
+        | inl e ↦ let z : (n + 1) % 15 ≡ 0 = omega arith in rw (e, z) (rw h at (turned-all l))
+        | inr k ↦ let z : (n + 1) % 15 ≡ suc (n % 15) = omega arith in rw z
+      ]
+
+  backwards-same : (a : A) (m k : ℕ) → reverseAux (replicate m a) (replicate k a) ≡ replicate (m + k) a
+  backwards-same a zero k = let e : 0 + k ≡ k = omega arith in rw e
+  backwards-same a (suc m) k = let e : suc m + k ≡ m + suc k = omega arith in rw e (backwards-same a m (suc k))
+
+  turned-same : (a : A) (r k : ℕ) → turned r (replicate (r + k) a) ≡ replicate (r + k) a
+  unfolding turned
+  turned-same a r k =
+      rw (← (replicate-append-replicate r k a), take-at (replicate r a) (replicate k a) r (length-replicate r a), drop-at (replicate r a) (replicate k a) r (length-replicate r a))
+      (rw (backwards-same a r 0, backwards-same a k 0, add-zero r, add-zero k))
+
+-- ---- the slots
+
+-- what the loss ratio reads of a slot: the id and the pair, where it is initialised
+unfoldable pub held : Observation → Option (ℕ × Pair)
+held o = cond (o .«is_initialized») (some (o .id, record { bytes = o .size; lost = o .«lost_size» })) none
+
+-- m places by age, for pairs newest first of which the newest is the n-th observation: each pair beside its id, and none past the last
+unfoldable pub byAge : ℕ → ℕ → List Pair → List (Option (ℕ × Pair))
+byAge zero n ps = []
+byAge (suc m) n [] = none ∷ byAge m n []
+byAge (suc m) n (p ∷ ps) = some (n - 1, p) ∷ byAge m (n - 1) ps
+
+-- the slots in order: with r = n % 15, the ages from r - 1 down to 0, then those from 14 down to r
+unfoldable pub slots : ℕ → List Pair → List (Option (ℕ × Pair))
+slots n ps = turned (n % 15) (byAge 15 n ps)
+
+-- without pairs they are those of no observation, at any count
+pub slots-empty : (n : ℕ) → slots n [] ≡ map held (replicate 15 dummy)
+unfolding slots byAge held
+slots-empty n = let e : n % 15 + (15 - n % 15) ≡ 15 = omega arith in rw e at (turned-same {A = Option (ℕ × Pair)} none (n % 15) (15 - n % 15))
+
+-- ---- a new observation
+
+by-age-length : (m n : ℕ) (ps : List Pair) → length (byAge m n ps) ≡ m
+unfolding byAge
+by-age-length zero n ps = refl
+by-age-length (suc m) n [] = ap suc (by-age-length m n [])
+by-age-length (suc m) n (p ∷ ps) = ap suc (by-age-length m (n - 1) ps)
+
+by-age-take : (m n : ℕ) (ps : List Pair) → byAge m n (take m ps) ≡ byAge m n ps
+unfolding byAge
+by-age-take zero n ps = refl
+by-age-take (suc m) n [] = refl
+by-age-take (suc m) n (p ∷ ps) = rw (by-age-take m (n - 1) ps)
+
+by-age-last : (m n : ℕ) (ps : List Pair) → (x : Option (ℕ × Pair)) × (byAge (suc m) n ps ≡ byAge m n ps ++ (x ∷ []))
+unfolding byAge
+by-age-last zero n [] = (_, refl)
+by-age-last zero n (p ∷ ps) = (_, refl)
+by-age-last (suc m) n [] = let l = by-age-last m n [] in (l .0, rw (l .1))
+by-age-last (suc m) n (p ∷ ps) = let l = by-age-last m (n - 1) ps in (l .0, rw (l .1))
+
+-- a new pair is set at n % 15, and a sixteenth is gone
+pub slots-turn : (n : ℕ) (p : Pair) (ps : List Pair) → set (slots n ps) (n % 15) (some (n, p)) ≡ slots (n + 1) (take 15 (p ∷ ps))
+unfolding slots byAge
+slots-turn n p ps =
+    let l = by-age-last 14 n ps in
+    let e : n + 1 - 1 ≡ n = omega arith in
+    let r : n % 15 ≤ length (byAge 14 n ps) = rw (by-age-length 14 n ps) (omega arith) in
+    rw (l .1, e, by-age-take 14 n ps)
+    (turned-set (byAge 14 n ps) (l .0) (some (n, p)) (n % 15) r ∙ turned-next n (some (n, p) ∷ byAge 14 n ps) (ap suc (by-age-length 14 n ps)))
+
+-- to set an element and then map is to map and then set
+pub map-set : {A B : Type 0} (f : A → B) (l : List A) (i : ℕ) (a : A) → map f (set l i a) ≡ set (map f l) i (f a)
+map-set f [] i a = refl
+map-set f (x ∷ l) zero a = refl
+map-set f (x ∷ l) (suc i) a = rw (map-set f l i a)
+
+-- ---- what the loss ratio reads
+
+abbrev seen : ℕ → Option (ℕ × Pair) → Option Measured
+seen n none = none
+seen n (some (id, p)) = some (record { age = Ratio.age n id; total = p .bytes; lost = p .lost })
+
+window-is : (n : ℕ) (os : List Observation) → Ratio.window n os ≡ filterMap (seen n) (map held os)
+unfolding Ratio.window held filterMap Option·elim
+window-is n [] = refl
+window-is n (o ∷ os) = go (o .«is_initialized») (window-is n os)
+  where
+    go : (b : Bool) → Ratio.window n os ≡ filterMap (seen n) (map held os)
+        → cond b (Ratio.measured n o ∷ Ratio.window n os) (Ratio.window n os)
+        ≡ filterMap (seen n) (cond b (some (o .id, record { bytes = o .size; lost = o .«lost_size» })) none ∷ map held os)
+    go true e = rw e
+    go false e = e
+
+age-is : (n k : ℕ) → 0 < k → Ratio.age (n + k) (k - 1) ≡ n
+unfolding Ratio.age
+age-is n k h = rw (lt-ltb (k - 1) (n + k) (omega arith)) (omega arith)
+
+by-age-seen : (n m k : ℕ) (ps : List Pair) → length ps ≤ m → length ps ≤ k → filterMap (seen (n + k)) (byAge m k ps) ≡ aged n ps
+unfolding filterMap Option·elim byAge aged
+by-age-seen n zero k [] h l = refl
+by-age-seen n zero k (p ∷ ps) h l = absurd (omega arith)
+by-age-seen n (suc m) k [] h l = by-age-seen n m k [] (omega arith) l
+by-age-seen n (suc m) k (p ∷ ps) h l =
+    let e : n + 1 + (k - 1) ≡ n + k = omega arith in
+    cc (age-is n k (omega arith), rw e at (by-age-seen (n + 1) m (k - 1) ps (omega arith) (omega arith)))
+
+fits : (bytes : ℕ) → bytes ≤ 10 ^ 12 → inFloat binary64 (pos bytes) ≡ true
+unfolding inFloat
+fits bytes h = le-leb bytes (2 ^ 53) (omega arith)
+
+-- every size of a sound window goes to a float
+sound-readable : (n : ℕ) (os : List Observation) → AllSound (Ratio.window n os) → Ratio.readable os ≡ true
+unfolding Ratio.window Ratio.readable
+sound-readable n [] s = refl
+sound-readable n (o ∷ os) s = go (o .«is_initialized») refl s (sound-readable n os)
+  where
+    go : (b : Bool) → o .«is_initialized» ≡ b → AllSound (cond b (Ratio.measured n o ∷ Ratio.window n os) (Ratio.window n os))
+        → (AllSound (Ratio.window n os) → Ratio.readable os ≡ true) → Ratio.readable (o ∷ os) ≡ true
+    go true e (s, ss) rest = rw (e, fits (o .size) (s .bounded), fits (o .«lost_size») (omega arith)) (rest ss)
+    go false e ss rest = rw e (rest ss)
+
+-- ---- slots that hold a history's pairs
+module _ (n : ℕ) (ps : List Pair) (os : List Observation) (same : map held os ≡ slots n ps) (counted : length ps ≤ n) (few : length ps ≤ 15) where
+  -- the window that the ratio reads of them is the history's, in another order
+  pub slots-window : List·Permᴰ (Ratio.window n os) (aged 0 ps)
+  unfolding slots
+  slots-window =
+      let read : filterMap (seen n) (byAge 15 n ps) ≡ aged 0 ps = rw (zero-add n) at (by-age-seen 0 15 n ps few counted) in
+      rw (window-is n os, same) (rw read at (Permᴰ·filterMap (seen n) (turned-perm (n % 15) (byAge 15 n ps))))
+
+  -- and every size of them goes to a float
+  pub slots-readable : Within ps → Ratio.readable os ≡ true
+  slots-readable within = sound-readable n os (sound-perm slots-window (aged-sound 0 ps (omega arith) within))

@@ -1,0 +1,104 @@
+-- What the loss ratio and the ceiling of observations are to the history that they are tied to. Assumes nothing.
+use Prim.Native.Nat.{ℕ, suc, _+_, _-_, _*_, _≤_, _<_}
+use mathlib.Core.Path.{_≡_, refl, ap, _∙_}
+use mathlib.Core.Logic.{inl, inr}
+use mathlib.Core.Bool.{true, false}
+use mathlib.Core.List.{List, [], _∷_, List·Permᴰ}
+use native.Mathlib.Nat.{eq-zero-or-pos, mul-pos, one-le-pow}
+use native.Mathlib.Omega.{arith}
+use lib.Dec.{T, lit<}
+use lib.ListN.{length}
+use lib.Ieee.{Float, nan, inf, fin, lt}
+use lib.Ieee.Scale.{finite}
+use Rattle.float.specs.Answer.{answered}
+use Rattle.float.proofs.Refusal.{either}
+use Rattle.bandwidth.specs.Rate as Rate
+use Rattle.bandwidth.specs.declared.RateAnswer.{RateAnswer}
+use Rattle.config.specs.Config as Config
+use Rattle.rounding.specs.Exact.{Measured, exactWeight, exactSum, exactTotal, AllSound, Close, Capped}
+use Rattle.rounding.specs.Plain.{plain}
+use Rattle.rounding.specs.Ratio.{highLoss, lossRatio, lossCeiling}
+use Rattle.rounding.proofs.Ratio.{ratio-not-above-one}
+use Rattle.rounding.proofs.AnyOrder.{sound-perm, length-perm, close-any-order, ceiling-any-order}
+use Rattle.observation.specs.Ratio as Ratio
+use Rattle.observation.specs.declared.Observations.{Observations}
+use Rattle.observation.proofs.Plain.{limit-is-ceiling}
+use Rattle.history.specs.History.{Pair, History}
+use Rattle.history.specs.Window.{aged, window, weighedLost, weighedBytes, allBytes}
+use Rattle.history.proofs.Kept.{aged-sound}
+use Rattle.history.proofs.Slots.{slots-window, slots-readable}
+use Rattle.history.proofs.Tied.{Tied}
+
+aged-length : (newer : ℕ) (ps : List Pair) → length (aged newer ps) ≡ length ps
+unfolding aged
+aged-length newer [] = refl
+aged-length newer (p ∷ ps) = ap suc (aged-length (newer + 1) ps)
+
+-- bytes weigh something, whatever their age
+aged-some : (newer : ℕ) (ps : List Pair) → 0 < allBytes ps → 0 < exactTotal (aged newer ps)
+unfolding aged allBytes exactSum
+aged-some newer [] h = h
+aged-some newer (p ∷ ps) h = elim (eq-zero-or-pos (p .bytes)) [
+  | inl none ↦ let rest = aged-some (newer + 1) ps (omega arith) in omega arith
+  | inr some ↦ let first : 0 < exactWeight newer * p .bytes = mul-pos (mul-pos (one-le-pow newer 9 (lit< tt)) (one-le-pow (14 - newer) 10 (lit< tt))) some in omega arith
+]
+
+some-pair : (ps : List Pair) → 0 < allBytes ps → 0 < length ps
+unfolding allBytes
+some-pair [] h = h
+some-pair (p ∷ ps) h = omega arith
+
+plain-finite : (x : Float) → T (plain x) → finite x ≡ true
+plain-finite nan h = absurd h
+plain-finite (inf s) h = absurd h
+plain-finite (fin s m e) h = refl
+
+module _ (o : Observations) (h : History) (t : Tied o h) where
+  -- the window that the ratio reads
+  abbrev read : List Measured
+  read = Ratio.window (o .«num_observations») (o .observations)
+
+  any-order : List·Permᴰ read (window h)
+  any-order = rw (t .count) (slots-window (h .count) (h .pairs) (o .observations) (t .slots) (t .kept .counted) (t .kept .few))
+
+  sound : AllSound (window h)
+  sound = aged-sound 0 (h .pairs) (omega (arith, t .kept .few)) (t .kept .within)
+
+  short : length (window h) ≤ 15
+  short = rw (aged-length 0 (h .pairs)) (t .kept .few)
+
+  -- every size goes to a float
+  pub tied-readable : Ratio.readable (o .observations) ≡ true
+  tied-readable = slots-readable (h .count) (h .pairs) (o .observations) (t .slots) (t .kept .counted) (t .kept .few) (t .kept .within)
+
+  -- so the ratio is not refused
+  pub tied-reported : Ratio.reported o ≡ answered (lossRatio read)
+  unfolding Ratio.reported
+  tied-reported = rw tied-readable
+
+  -- nor is it above 1.0
+  tied-not-above-one : lt highLoss (lossRatio read) ≡ false
+  tied-not-above-one = ratio-not-above-one read (sound-perm any-order sound) (rw (length-perm any-order) short)
+
+  -- so the ceiling is not refused
+  pub tied-ceiling-taken : Ratio.instantUpperBound o .refusal ≡ 0
+  unfolding Ratio.instantUpperBound Ratio.instantLimit
+  tied-ceiling-taken = rw (tied-reported, tied-not-above-one) (either (λ (a : RateAnswer). a .refusal ≡ 0) (lt Config.«instant_upper_bound_loss_offset» (lossRatio read)) _ _ refl refl)
+
+  module _ (some : 0 < allBytes (h .pairs)) where
+    -- an observation is complete
+    pub tied-counted : 0 < o .«num_observations»
+    tied-counted = omega (arith, some-pair (h .pairs) some, t .count, t .kept .counted)
+
+    -- the ratio is within r/2^46 of the history's r
+    pub tied-ratio : (Ratio.reported o .refusal ≡ 0) × Close (Ratio.reported o .value) (weighedLost h) (weighedBytes h)
+    tied-ratio = rw tied-reported (refl, close-any-order read (window h) any-order sound short (aged-some 0 (h .pairs) some))
+
+    -- where r is at least 0.06, the ceiling is that of the ratio, within one part in 2^40 of the history's
+    pub tied-ceiling : 6 * weighedBytes h ≤ 100 * weighedLost h
+        → (Ratio.cached (o .«cached_instant_upper_bound») ≡ Rate.rate (lossCeiling (Ratio.reported o .value))) × Capped (lossCeiling (Ratio.reported o .value)) (weighedLost h) (weighedBytes h)
+    unfolding Ratio.instantUpperBound Ratio.validOrMax
+    tied-ceiling six =
+        let sets = ceiling-any-order read (window h) any-order sound short (aged-some 0 (h .pairs) some) six in
+        let limit = limit-is-ceiling (lossRatio read) (sets .taken) tied-not-above-one (sets .divisor) in
+        rw tied-reported (t .ceiling ∙ rw (tied-reported, limit, plain-finite (lossCeiling (lossRatio read)) (sets .capped .plainly)), sets .capped)
