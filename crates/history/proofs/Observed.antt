@@ -14,7 +14,7 @@ use Rattle.time.specs.declared.TimeDelta.{TimeDelta}
 use Rattle.time.specs.declared.Timestamp.the-variants.{Exact}
 use Rattle.packets.specs.Summary.{packets, refused, summaryOf}
 use Rattle.packets.specs.declared.PacketResultsSummary.{PacketResultsSummary}
-use Rattle.packets.proofs.Totals.{flag-small, lost-part}
+use Rattle.packets.proofs.Totals.{flag-small, lost-part, summary-holds}
 use Rattle.observation.specs.Partial as Partial
 use Rattle.observation.specs.Ratio as Ratio
 use Rattle.observation.specs.Window as Window
@@ -22,7 +22,6 @@ use Rattle.observation.specs.declared.PartialObservation.{PartialObservation}
 use Rattle.observation.specs.declared.Observations.{Observations}
 use Rattle.observation.specs.declared.AddedAnswer.{AddedAnswer}
 use Rattle.history.specs.History.{History, heldOr, completed}
-use Rattle.history.proofs.Sums.{summary-holds}
 use Rattle.history.proofs.Tied.{Tied, span, added-by, updated-sums, pairOf, observed-held, completed-tied, completes-is}
 use Rattle.history.proofs.Weighed.{tied-ceiling-taken}
 

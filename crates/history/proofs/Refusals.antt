@@ -4,15 +4,15 @@ use mathlib.Core.Path.{_≡_, refl, sym, ap, _∙_, subst}
 use mathlib.Core.Bool.{Bool, true, false, cond, true≢false, _&&_, Bool·beq}
 use mathlib.Core.List.{List}
 use native.Mathlib.Omega.{arith}
-use borrow.Author.Tests.{eqb-true, leb-true}
-use lib.Dec.{T, eqb, leb, ltb, lit≤}
+use borrow.Author.Tests.{eqb-true}
+use lib.Dec.{T, eqb}
 use Rattle.float.specs.declared.FloatAnswer.{FloatAnswer}
 use Rattle.float.proofs.Refusal.{either, tested, checked as checked-by}
 use Rattle.bandwidth.specs.declared.Bitrate.{Bitrate}
 use Rattle.time.specs.Time as Time
-use Rattle.packets.specs.Summary.{packets, packetRefusal, columnsRefusal, later, summaryOf}
-use Rattle.packets.specs.declared.PacketResult.{PacketResult}
+use Rattle.packets.specs.Summary.{packets, columnsRefusal, later, summaryOf}
 use Rattle.packets.specs.declared.PacketResultsSummary.{PacketResultsSummary}
+use Rattle.packets.proofs.Totals.{summary-early}
 use Rattle.observation.specs.Window as Window
 use Rattle.observation.specs.declared.Observations.{Observations}
 use Rattle.observation.specs.declared.AddedAnswer.{AddedAnswer}
@@ -31,7 +31,7 @@ use Rattle.history.specs.History.{Pair, History, reported, added}
 use Rattle.history.specs.Refusals.{first, stateRefusal, reportRefusal, refusalOf, Refusals2}
 use Rattle.history.specs.Run.{rateOf, capacityOf, startOf, step}
 use Rattle.history.proofs.Kept.{Part, lost-part}
-use Rattle.history.proofs.Sums.{summed, refusal-of-packets, summary-holds}
+use Rattle.history.proofs.Sums.{summed, refusal-of-packets}
 use Rattle.history.proofs.Tied.{Tied, added-by, added-tied}
 use Rattle.history.proofs.Run.{always}
 use Rattle.history.proofs.Step.{Invariant, initial-tied, step-kept}
@@ -42,21 +42,6 @@ use Rattle.history.proofs.Observed.{Counted, Parted, cleared-counted, a
 use Rattle.history.proofs.Reached.{TakenRate, TakenOption, rate-taken, capacity-taken, Keeps, initial-keeps, updated-taken}
 
 -- ---- a report
-
--- the send time of a packet that code 3 takes
-packet-early : (p : PacketResult) → packetRefusal p ≡ 0 → p .«local_send_time» ≤ 4 * 10 ^ 18
-unfolding packetRefusal
-packet-early p = go (leb (p .«local_send_time») (4 * 10 ^ 18)) (leb (p .lost) 1) refl
-  where
-    go : (a b : Bool) → leb (p .«local_send_time») (4 * 10 ^ 18) ≡ a → _≡_ {A = ℕ} (cond a (cond b 0 8) 3) 0 → p .«local_send_time» ≤ 4 * 10 ^ 18
-    go true b e h = leb-true _ _ e
-    go false b e h = absurd (omega arith)
-
--- no summary has a later send time than that
-summary-early : (times sizes flags : List ℕ) → summaryOf times sizes flags .summary .«last_send_time» ≤ 4 * 10 ^ 18
-summary-early =
-    summary-holds (λ (s : PacketResultsSummary). s .«last_send_time» ≤ 4 * 10 ^ 18) (lit≤ tt)
-    (λ s p e h. either (λ (t : ℕ). t ≤ 4 * 10 ^ 18) (ltb (s .«last_send_time») (p .«local_send_time»)) _ _ (packet-early p e) h)
 
 abbrev TimelyAnswer : AddedAnswer → Type 0
 TimelyAnswer a = Timely (a .observations .«last_send_time_most_recent_observation»)

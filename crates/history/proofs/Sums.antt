@@ -8,7 +8,6 @@ use borrow.Author.Tests.{eqb-true, eqb-false, ltb-true, ltb-false, eq-eqb, ne-eq
 use lib.Dec.{eqb, ltb}
 use lib.ListN.{length}
 use Rattle.packets.specs.Summary.{columnsRefusal, packets, packetRefusal, empty, refused, later, plus, addPacket, summaryOf}
-use Rattle.float.proofs.Refusal.{either, checked}
 use Rattle.packets.specs.declared.PacketResult.{PacketResult}
 use Rattle.packets.specs.declared.PacketResultsSummary.{PacketResultsSummary}
 use Rattle.packets.specs.declared.SummaryAnswer.{SummaryAnswer}
@@ -58,21 +57,6 @@ module _ (times sizes flags : List ℕ) where
       go false e = sym (refusal-of-columns (eqb-false _ 0 e)) ∙ h
 
 -- ---- totals
-
--- what empty totals have, and every packet that is taken keeps, holds of the totals of every report, which are empty where it is refused
-pub summary-holds : (P : PacketResultsSummary → Type 0) → P empty → ((s : PacketResultsSummary) (p : PacketResult) → packetRefusal p ≡ 0 → P s → P (plus s p))
-    → (times sizes flags : List ℕ) → P (summaryOf times sizes flags .summary)
-unfolding summaryOf addPacket
-summary-holds P none more times sizes flags =
-    either (λ (a : SummaryAnswer). P (a .summary)) (eqb (columnsRefusal times sizes flags) 0) _ _ (go (packets times sizes flags) (refused 0) none) none
-  where
-    go : (ps : List PacketResult) (a : SummaryAnswer) → P (a .summary) → P (foldl addPacket a ps .summary)
-    go [] a h = h
-    go (p ∷ ps) a h =
-        go ps (addPacket a p)
-        (either (λ (a : SummaryAnswer). P (a .summary)) (eqb (a .refusal) 0) _ a
-        (checked (λ (a : SummaryAnswer). P (a .summary)) (packetRefusal p) (λ e. more (a .summary) p e h) (λ r. none))
-        h)
 
 -- s are the totals of the columns, beside those of z
 record Beyond (z s : PacketResultsSummary) (times sizes flags : List ℕ) : Type 0 where

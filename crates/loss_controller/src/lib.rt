@@ -76,7 +76,7 @@ impl OptionInstant {
     }
 }
 
-fn time_refusal(time: u64) -> u8
+pub fn time_refusal(time: u64) -> u8
     ensures { λ r. ⌜ r ≡ Setters.timeRefusal time ⌝ }
 {
     if time > packets::LATEST_TIME {

@@ -1,15 +1,16 @@
 -- The list of packets that three columns of one length make, and how far one packet takes the totals. Assumes nothing.
 use Prim.Native.Nat.{ℕ, zero, suc, _+_, _*_, _^_, _≤_, _<_}
-use mathlib.Core.Path.{_≡_, refl, ap}
-use mathlib.Core.Bool.{Bool, true, false, cond, _&&_}
+use mathlib.Core.Path.{_≡_, refl, sym, ap}
+use mathlib.Core.Bool.{Bool, true, false, cond, true≢false, _&&_}
 use mathlib.Core.List.{List, [], _∷_, foldl}
 use native.Mathlib.Nat.{mul-le-mul-left, mul-one}
 use native.Mathlib.Omega.{arith}
-use borrow.Author.Tests.{eqb-true, leb-true}
-use lib.Dec.{eqb, leb}
+use borrow.Author.Tests.{eqb-true, leb-true, le-leb}
+use lib.Dec.{eqb, leb, ltb, lit≤}
 use lib.ListN.{length, getD, drop}
 use Rattle.float.proofs.Fold.{fold-again, fold-end}
-use Rattle.packets.specs.Summary.{columnsRefusal, packets, packetRefusal, empty, refused, plus, addPacket, largestPacket, Within}
+use Rattle.float.proofs.Refusal.{either, checked}
+use Rattle.packets.specs.Summary.{columnsRefusal, packets, packetRefusal, empty, refused, later, plus, addPacket, takesAnother, added, summaryOf, largestPacket, Within}
 use Rattle.packets.specs.declared.PacketResult.{PacketResult}
 use Rattle.packets.specs.declared.PacketResultsSummary.{PacketResultsSummary}
 use Rattle.packets.specs.declared.SummaryAnswer.{SummaryAnswer}
@@ -80,6 +81,36 @@ flag-small p = go (leb (p .«local_send_time») (4 * 10 ^ 18)) (leb (p .lost) 1)
 pub lost-part : (p : PacketResult) → packetRefusal p ≡ 0 → p .size * p .lost ≤ p .size
 lost-part p h = omega (arith, mul-le-mul-left (p .size) (flag-small p h), mul-one (p .size))
 
+-- the send time of a packet that code 3 takes
+pub packet-early : (p : PacketResult) → packetRefusal p ≡ 0 → p .«local_send_time» ≤ 4 * 10 ^ 18
+unfolding packetRefusal
+packet-early p = go (leb (p .«local_send_time») (4 * 10 ^ 18)) (leb (p .lost) 1) refl
+  where
+    go : (a b : Bool) → leb (p .«local_send_time») (4 * 10 ^ 18) ≡ a → _≡_ {A = ℕ} (cond a (cond b 0 8) 3) 0 → p .«local_send_time» ≤ 4 * 10 ^ 18
+    go true b e h = leb-true _ _ e
+    go false b e h = absurd (omega arith)
+
+-- what empty totals have, and every packet that is taken keeps, holds of the totals of every report, which are empty where it is refused
+pub summary-holds : (P : PacketResultsSummary → Type 0) → P empty → ((s : PacketResultsSummary) (p : PacketResult) → packetRefusal p ≡ 0 → P s → P (plus s p))
+    → (times sizes flags : List ℕ) → P (summaryOf times sizes flags .summary)
+unfolding summaryOf addPacket
+summary-holds P none more times sizes flags =
+    either (λ (a : SummaryAnswer). P (a .summary)) (eqb (columnsRefusal times sizes flags) 0) _ _ (go (packets times sizes flags) (refused 0) none) none
+  where
+    go : (ps : List PacketResult) (a : SummaryAnswer) → P (a .summary) → P (foldl addPacket a ps .summary)
+    go [] a h = h
+    go (p ∷ ps) a h =
+        go ps (addPacket a p)
+        (either (λ (a : SummaryAnswer). P (a .summary)) (eqb (a .refusal) 0) _ a
+        (checked (λ (a : SummaryAnswer). P (a .summary)) (packetRefusal p) (λ e. more (a .summary) p e h) (λ r. none))
+        h)
+
+-- no summary has a later send time than that
+pub summary-early : (times sizes flags : List ℕ) → summaryOf times sizes flags .summary .«last_send_time» ≤ 4 * 10 ^ 18
+summary-early =
+    summary-holds (λ (s : PacketResultsSummary). s .«last_send_time» ≤ 4 * 10 ^ 18) (lit≤ tt)
+    (λ s p e h. either (λ (t : ℕ). t ≤ 4 * 10 ^ 18) (ltb (s .«last_send_time») (p .«local_send_time»)) _ _ (packet-early p e) h)
+
 pub none-within : (n : ℕ) → Within n empty
 none-within n = record { packets-within = omega arith; lost-packets-within = omega arith; size-within = omega arith; lost-size-within = omega arith }
 
@@ -109,3 +140,23 @@ within-more n a p s w = go (eqb (a .refusal) 0) (eqb (packetRefusal p) 0) refl
         }
     go true false k = none-within (n + 1)
     go false u k = within-larger (a .summary) (omega arith) w
+
+-- ---- one packet more, whatever the totals
+
+pub takes-within : (s : PacketResultsSummary) → takesAnother s ≡ true → Within 4095 s
+unfolding takesAnother
+takes-within s =
+    go (leb (s .«num_packets») 4095) (leb (s .«num_lost_packets») (s .«num_packets»)) (leb (s .«total_size») (largestPacket * 4095)) (leb (s .«lost_size») (s .«total_size»)) refl refl refl refl
+  where
+    go : (a b c d : Bool) → leb (s .«num_packets») 4095 ≡ a → leb (s .«num_lost_packets») (s .«num_packets») ≡ b → leb (s .«total_size») (largestPacket * 4095) ≡ c
+        → leb (s .«lost_size») (s .«total_size») ≡ d → (a && (b && (c && d))) ≡ true → Within 4095 s
+    go true true true true p q r t h = record { packets-within = leb-true _ _ p; lost-packets-within = leb-true _ _ q; size-within = leb-true _ _ r; lost-size-within = leb-true _ _ t }
+    go true true true false p q r t h = absurd (true≢false (sym h))
+    go true true false d p q r t h = absurd (true≢false (sym h))
+    go true false c d p q r t h = absurd (true≢false (sym h))
+    go false b c d p q r t h = absurd (true≢false (sym h))
+
+-- it is `addPacket` on the totals of fewer than 4,096 packets
+pub added-is : (a : SummaryAnswer) (p : PacketResult) → Within 4095 (a .summary) → added a p ≡ addPacket a p
+unfolding added takesAnother
+added-is a p w = rw (le-leb _ _ (w .packets-within), le-leb _ _ (w .lost-packets-within), le-leb _ _ (w .size-within), le-leb _ _ (w .lost-size-within)) refl

@@ -1,6 +1,6 @@
 -- The packets of a report and their totals. Definitions only.
 use Prim.Native.Nat.{ℕ, _+_, _*_, _^_, _≤_}
-use mathlib.Core.Bool.{cond, _&&_}
+use mathlib.Core.Bool.{Bool, cond, _&&_}
 use mathlib.Core.List.{List, [], _∷_, foldl}
 use lib.Dec.{eqb, leb, ltb}
 use lib.ListN.{length}
@@ -82,3 +82,15 @@ pub record Within (n : ℕ) (s : PacketResultsSummary) : Type 0 where
 -- those of a report, which are zeros where it is refused
 abbrev pub Bounded : PacketResultsSummary → Type 0
 Bounded s = Within 4096 s
+
+-- ---- one packet more, whatever the totals
+
+-- `Within 4095`, as a test
+unfoldable pub takesAnother : PacketResultsSummary → Bool
+takesAnother s =
+    leb (s .«num_packets») 4095 && (leb (s .«num_lost_packets») (s .«num_packets»)
+    && (leb (s .«total_size») (largestPacket * 4095) && leb (s .«lost_size») (s .«total_size»)))
+
+-- `addPacket` where the totals are those of fewer than 4,096 packets; else the packet would be one too many
+unfoldable pub added : SummaryAnswer → PacketResult → SummaryAnswer
+added answer p = cond (takesAnother (answer .summary)) (addPacket answer p) (refused 5)

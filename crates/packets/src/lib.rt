@@ -2,7 +2,7 @@
 // `PacketResultsSummary` of loss_controller.rs. Instants are numbers of ns.
 ghost use mathlib.Core.Path.{_≡_};
 ghost use Prim.Native.Nat.{_<_};
-ghost use Rattle.packets.specs.Summary.{columnsRefusal, packetRefusal, empty, refused, later, addPacket, summaryOf, Within, Bounded};
+ghost use Rattle.packets.specs.Summary.{columnsRefusal, packetRefusal, empty, refused, later, addPacket, takesAnother, added, summaryOf, Within, Bounded};
 
 // A packet's bytes.
 pub type PacketSize = u16;
@@ -43,6 +43,26 @@ impl PacketResultsSummary {
         lost_size: 0,
         last_send_time: 0,
     };
+
+    // Whether these can be the totals of fewer than 4,096 packets, so that one more fits.
+    fn takes_another(self) -> bool
+        ensures { λ r. ⌜ r ≡ takesAnother self ⌝ }
+    {
+        if self.num_packets > 4_095 {
+            return false;
+        }
+        if self.num_lost_packets > self.num_packets {
+            return false;
+        }
+        // 4,095 packets of the largest size
+        if self.total_size > 268_365_825 {
+            return false;
+        }
+        if self.lost_size > self.total_size {
+            return false;
+        }
+        true
+    }
 }
 
 // 4 for columns of unequal length, then 5 for more than 4,096 packets.
@@ -124,6 +144,17 @@ impl SummaryAnswer {
             },
             refusal: 0,
         }
+    }
+
+    // The same for a caller's own loop: 5 where the totals are no report's that has room for it.
+    pub fn add(self, packet: PacketResult) -> SummaryAnswer
+        ensures { λ r. ⌜ r ≡ added self packet ⌝ }
+    {
+        let summary = self.summary;
+        if !summary.takes_another() {
+            return SummaryAnswer::refused(5);
+        }
+        self.add_packet(packet)
     }
 }
 

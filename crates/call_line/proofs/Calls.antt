@@ -1,0 +1,98 @@
+-- A line that is taken is the text of its call: no two lines say the same call. Assumes nothing.
+use Prim.Native.Nat.{ℕ, zero, suc}
+use mathlib.Core.Path.{_≡_, refl, sym, ap, _∙_}
+use mathlib.Core.Bool.{Bool, true, false, cond, _&&_, _||_, not, true≢false}
+use mathlib.Core.List.{List, [], _∷_}
+use native.Mathlib.Omega.{arith}
+use borrow.Author.Tests.{eqb-true}
+use lib.Dec.{eqb}
+use lib.ListN.{getD}
+use Rattle.loss_controller.specs.Setters.{timeRefusal}
+use Rattle.call_line.specs.declared.Fields.{Fields}
+use Rattle.call_line.specs.declared.Fields.the-variants.{Read as Fields·Read, Unreadable}
+use Rattle.call_line.specs.declared.Call.{Call}
+use Rattle.call_line.specs.declared.Call.the-variants.{Estimate, Acknowledged, AlrOn, AlrOff, CapacityIs, CapacityNone, Packet, Report, Read}
+use Rattle.call_line.specs.declared.Line.the-variants.{Taken, Refused, ReportRefused}
+use Rattle.call_line.specs.Column.{row}
+use Rattle.call_line.specs.Line.{widths, fieldsOf, inTable, rateCode, unlessRefused, byFlag, reportOf, alrOf, capacityOf, packetOf, callOf, valuesOf, checked, lineOf}
+use Rattle.call_line.proofs.RoundTrip.{Fits, line-written, line-read}
+
+both : (t u : Bool) → t && u ≡ true → (t ≡ true) × (u ≡ true)
+both true u e = (refl, e)
+both false u e = absurd (true≢false (sym e))
+
+two-zeros : (b c : ℕ) → eqb b 0 && eqb c 0 ≡ true → (b ≡ 0) × (c ≡ 0)
+two-zeros b c e = let h = both (eqb b 0) (eqb c 0) e in (eqb-true b 0 (h .0), eqb-true c 0 (h .1))
+
+-- what is taken is the call
+taken-is : (refusal : ℕ) (call found : Call) → unlessRefused refusal call ≡ Taken found → found ≡ call
+unfolding unlessRefused
+taken-is refusal call found e = pick (eqb refusal 0) e
+  where
+    pick : (t : Bool) → cond t (Taken call) (Refused refusal) ≡ Taken found → found ≡ call
+    pick true e = cc
+    pick false e = let z : _≡_ {A = ℕ} 0 1 = cc in absurd (omega arith)
+
+report-is : (a : ℕ) (found : Call) → reportOf a ≡ Taken found → found ≡ Report a
+unfolding reportOf
+report-is a found e = pick (rateCode a) (eqb (rateCode a) 0) e
+  where
+    pick : (n : ℕ) (t : Bool) → cond t (Taken (Report a)) (ReportRefused n) ≡ Taken found → found ≡ Report a
+    pick n true e = cc
+    pick n false e = let z : _≡_ {A = ℕ} 0 1 = cc in absurd (omega arith)
+
+-- what a flag chooses has these values if its two calls have
+flag-is :
+    (k a b c refusal : ℕ) (off on found : Call) → valuesOf off ≡ k ∷ 0 ∷ 0 ∷ 0 ∷ [] → valuesOf on ≡ k ∷ a ∷ 1 ∷ 0 ∷ []
+    → eqb c 0 && (not (eqb b 0) || eqb a 0) ≡ true → byFlag b (Taken off) (unlessRefused refusal on) ≡ Taken found
+    → valuesOf found ≡ k ∷ a ∷ b ∷ c ∷ []
+unfolding byFlag
+flag-is k a b c refusal off on found x y h e =
+    let p = both (eqb c 0) (not (eqb b 0) || eqb a 0) h in
+    rw (eqb-true c 0 (p .0)) (pick (eqb b 0) (eqb b 1) refl refl (p .1) e)
+  where
+    pick :
+        (t u : Bool) → eqb b 0 ≡ t → eqb b 1 ≡ u → not t || eqb a 0 ≡ true
+        → cond t (Taken off) (cond u (unlessRefused refusal on) (Refused 8)) ≡ Taken found
+        → valuesOf found ≡ k ∷ a ∷ b ∷ 0 ∷ []
+    pick true u p q h e = let f : found ≡ off = cc in rw (eqb-true b 0 p, eqb-true a 0 h, f) x
+    pick false true p q h e = rw (eqb-true b 1 q, taken-is refusal on found e) y
+    pick false false p q h e = let z : _≡_ {A = ℕ} 0 1 = cc in absurd (omega arith)
+
+values : (k a b c : ℕ) (call : Call) → inTable k a b c ≡ true → callOf k a b c ≡ Taken call → valuesOf call ≡ k ∷ a ∷ b ∷ c ∷ []
+unfolding inTable callOf valuesOf alrOf capacityOf packetOf
+values zero a b c call h e = absurd (true≢false (sym h))
+values (suc zero) a b c call h e = let z = two-zeros b c h in rw (taken-is _ _ call e, z .0, z .1)
+values (suc (suc zero)) a b c call h e = let z = two-zeros b c h in rw (taken-is _ _ call e, z .0, z .1)
+values (suc (suc (suc zero))) a b c call h e = flag-is 3 a b c (timeRefusal a) AlrOff (AlrOn a) call refl refl h e
+values (suc (suc (suc (suc zero)))) a b c call h e =
+    flag-is 4 a b c (rateCode a) CapacityNone (CapacityIs a) call refl refl h e
+values (suc (suc (suc (suc (suc zero))))) a b c call h e = rw (taken-is _ _ call e)
+values (suc (suc (suc (suc (suc (suc zero)))))) a b c call h e = let z = two-zeros b c h in rw (report-is a call e, z .0, z .1)
+values (suc (suc (suc (suc (suc (suc (suc zero))))))) a b c call h e =
+    let p = both (eqb a 0) (eqb b 0 && eqb c 0) h in
+    let z = two-zeros b c (p .1) in
+    let f : call ≡ Read = cc in rw (f, eqb-true a 0 (p .0), z .0, z .1)
+values (suc (suc (suc (suc (suc (suc (suc (suc k)))))))) a b c call h e = absurd (true≢false (sym h))
+
+-- what is read is what is written
+pub call-read : (s : List ℕ) (call : Call) → lineOf s ≡ Taken call → row widths (valuesOf call) ≡ s
+unfolding lineOf checked
+call-read s call e = pick (fieldsOf s) refl e
+  where
+    allowed-or-not :
+        (k a b c : ℕ) (t : Bool) → inTable k a b c ≡ t → fieldsOf s ≡ Fields·Read k a b c
+        → cond t (callOf k a b c) (Refused 1) ≡ Taken call → row widths (valuesOf call) ≡ s
+    allowed-or-not k a b c true h f e = ap (row widths) (values k a b c call h e) ∙ line-read s k a b c f
+    allowed-or-not k a b c false h f e = let z : _≡_ {A = ℕ} 0 1 = cc in absurd (omega arith)
+
+    pick : (f : Fields) → fieldsOf s ≡ f → checked f ≡ Taken call → row widths (valuesOf call) ≡ s
+    pick (Fields·Read k a b c) f e = allowed-or-not k a b c (inTable k a b c) refl f e
+    pick Unreadable f e = let z : _≡_ {A = ℕ} 0 1 = cc in absurd (omega arith)
+
+-- what is written is read: four numbers that fit their columns are checked as they are
+pub line-says :
+    (k a b c : ℕ) → Fits (getD widths 0 0) k → Fits (getD widths 1 0) a → Fits (getD widths 2 0) b → Fits (getD widths 3 0) c
+    → lineOf (row widths (k ∷ a ∷ b ∷ c ∷ [])) ≡ checked (Fields·Read k a b c)
+unfolding lineOf
+line-says k a b c fk fa fb fc = ap checked (line-written k a b c fk fa fb fc)

@@ -1,0 +1,158 @@
+-- A line's columns by their number. Assumes nothing.
+use Prim.Native.Nat.{ℕ, zero, suc, _+_, _-_, _≤_, _<_}
+use mathlib.Core.Path.{_≡_, refl, sym, ap, _∙_}
+use mathlib.Core.Bool.{Bool, true, false, cond}
+use mathlib.Core.List.{List, [], _∷_}
+use native.Mathlib.Decide.{decLt}
+use native.Mathlib.Nat.{add-zero, zero-add, suc-add, add-assoc, zero-sub}
+use native.Mathlib.Numerals.{unary-clauses}
+use native.Mathlib.Omega.{arith}
+use borrow.Author.Tests.{eq-eqb, ne-eqb}
+use lib.Dec.{eqb}
+use lib.ListN.{length, getD, take, drop, set, length-take, length-drop}
+use lib.Seq.{getD-take, getD-drop, getD-set-same, getD-set-other, take-nil, drop-drop}
+use Rattle.call_line.specs.declared.Number.{Number}
+use Rattle.call_line.specs.declared.Number.the-variants.{Value, Wrong}
+use Rattle.call_line.specs.declared.Fields.the-variants.{Read, Unreadable}
+use Rattle.call_line.specs.Column.{asciiSpace, isDigit, AllDigits, digitsOf, leadingSpaces, columnOf, start, total, cut}
+use Rattle.call_line.specs.Line.{widths, four, fieldsOf}
+use Rattle.call_line.proofs.Reading.{no-digit}
+
+-- ---- where columns start
+
+-- a column starts where the one before it ends
+pub start-next : (ws : List ℕ) (k : ℕ) → k < length ws → start ws (k + 1) ≡ start ws k + getD ws k 0
+start-next [] k h = absurd (omega arith)
+start-next (w ∷ ws) zero h = simp (add-zero, zero-add)
+start-next (w ∷ ws) (suc k) h =
+    rw (suc-add k 1, start-next ws k (omega arith)) (sym (add-assoc w (start ws k) (getD ws k 0)))
+
+-- the columns end within the line
+pub within : (k : ℕ) → k < 4 → start widths k + getD widths k 0 ≤ total widths
+within zero h = omega arith
+within (suc zero) h = omega arith
+within (suc (suc zero)) h = omega arith
+within (suc (suc (suc zero))) h = omega arith
+within (suc (suc (suc (suc k)))) h = absurd (omega arith)
+
+-- ---- the part of a line from a place to another
+
+drop-take : (n w : ℕ) (s : List ℕ) → drop n (take w s) ≡ take (w - n) (drop n s)
+drop-take zero w s = simp unary-clauses
+drop-take (suc n) zero s = simp (zero-sub)
+drop-take (suc n) (suc w) [] = simp (unary-clauses, take-nil)
+drop-take (suc n) (suc w) (x ∷ s) = simp unary-clauses (drop-take n w s)
+
+abbrev pub part : ℕ → ℕ → List ℕ → List ℕ
+part from to s = take (to - from) (drop from s)
+
+spaces-fit : (s : List ℕ) → leadingSpaces s ≤ length s
+unfolding leadingSpaces
+spaces-fit [] = omega arith
+spaces-fit (b ∷ s) = pick (spaces-fit s) (eqb b asciiSpace)
+  where
+    pick : leadingSpaces s ≤ length s → (t : Bool) → cond t (suc (leadingSpaces s)) 0 ≤ suc (length s)
+    pick h true = omega arith
+    pick h false = omega arith
+
+module _ (s : List ℕ) (from to : ℕ) (h : to ≤ length s) where
+  length-part : length (part from to s) ≡ to - from
+  length-part = simp (length-take, length-drop) (omega arith)
+
+  part-at : (i : ℕ) → from ≤ i → i < to → getD (part from to s) (i - from) 0 ≡ getD s i 0
+  part-at i l u =
+      getD-take (to - from) (drop from s) (i - from) 0 (omega arith)
+      ∙ getD-drop from s (i - from) 0
+      ∙ ap (λ (j : ℕ). getD s j 0) (omega arith)
+
+  -- the spaces of a column, and its digits
+  pub spaces-within : leadingSpaces (part from to s) ≤ to - from
+  spaces-within = omega (arith, spaces-fit (part from to s), length-part)
+
+  pub column-is : (n : ℕ) → n ≡ leadingSpaces (part from to s) → columnOf (part from to s) ≡ digitsOf (part (from + n) to s)
+  unfolding columnOf
+  column-is n e =
+      let w : to - from - n ≡ to - (from + n) = omega arith in
+      ap (λ (k : ℕ). digitsOf (drop k (part from to s))) (sym e)
+      ∙ ap digitsOf (drop-take n (to - from) (drop from s) ∙ ap (take (to - from - n)) (drop-drop n from s))
+      ∙ ap (λ (k : ℕ). digitsOf (take k (drop (from + n) s))) w
+
+  pub all-digits :
+      ((j : ℕ) → from ≤ j → j < to → isDigit (getD s j 0) ≡ true) → AllDigits (part from to s)
+  all-digits d i l =
+      let u : i < to - from = rw length-part at l in
+      let e : getD (part from to s) i 0 ≡ getD s (from + i) 0 =
+      ap (λ (j : ℕ). getD (part from to s) j 0) (omega arith) ∙ part-at (from + i) (omega arith) (omega arith) in
+      rw e (d (from + i) (omega arith) (omega arith))
+
+  -- one digit more
+  pub digit-more :
+      (i : ℕ) → ((j : ℕ) → from ≤ j → j < i → isDigit (getD s j 0) ≡ true) → isDigit (getD s i 0) ≡ true
+      → (j : ℕ) → from ≤ j → j < i + 1 → isDigit (getD s j 0) ≡ true
+  digit-more i d e j l u = pick (decLt j i)
+    where
+      pick : Dec (j < i) → isDigit (getD s j 0) ≡ true
+      pick (yes p) = d j l p
+      pick (no m) = let q : j ≡ i = omega (arith, m) in rw q e
+
+  pub no-digit-at : (i : ℕ) → from ≤ i → i < to → isDigit (getD s i 0) ≡ false → digitsOf (part from to s) ≡ Wrong
+  no-digit-at i l u o =
+      let e = part-at i l u in
+      no-digit (part from to s) (i - from) (rw length-part (omega arith)) (rw e o)
+
+-- ---- four columns
+
+-- the column k of a line, by where it starts and ends
+pub cut-part : (s : List ℕ) (k from : ℕ) → from ≡ start widths k → cut widths k s ≡ part from (from + getD widths k 0) s
+cut-part s k from e =
+    let w : getD widths k 0 ≡ from + getD widths k 0 - from = omega arith in
+    ap (λ (j : ℕ). take (getD widths k 0) (drop j s)) (sym e) ∙ ap (λ (j : ℕ). take j (drop from s)) w
+
+four-1 : (a b c : Number) → four a Wrong b c ≡ Unreadable
+unfolding four
+four-1 (Value n) b c = refl
+four-1 Wrong b c = refl
+
+four-2 : (a b c : Number) → four a b Wrong c ≡ Unreadable
+unfolding four
+four-2 (Value n) (Value m) c = refl
+four-2 (Value n) Wrong c = refl
+four-2 Wrong b c = refl
+
+four-3 : (a b c : Number) → four a b c Wrong ≡ Unreadable
+unfolding four
+four-3 (Value n) (Value m) (Value k) = refl
+four-3 (Value n) (Value m) Wrong = refl
+four-3 (Value n) Wrong c = refl
+four-3 Wrong b c = refl
+
+pub other-width : (s : List ℕ) → (length s ≡ total widths → ⊥) → fieldsOf s ≡ Unreadable
+unfolding fieldsOf
+other-width s n = simp (ne-eqb _ _ n)
+
+module _ (s : List ℕ) (e : length s ≡ total widths) where
+  pub wrong-column : (k : ℕ) → k < 4 → columnOf (cut widths k s) ≡ Wrong → fieldsOf s ≡ Unreadable
+  unfolding fieldsOf four
+  wrong-column zero h w = simp (eq-eqb _ _ e, w)
+  wrong-column (suc zero) h w = simp (eq-eqb _ _ e, w, four-1)
+  wrong-column (suc (suc zero)) h w = simp (eq-eqb _ _ e, w, four-2)
+  wrong-column (suc (suc (suc zero))) h w = simp (eq-eqb _ _ e, w, four-3)
+  wrong-column (suc (suc (suc (suc k)))) h w = absurd (omega arith)
+
+  pub right-columns :
+      (v : List ℕ) → ((j : ℕ) → j < 4 → columnOf (cut widths j s) ≡ Value (getD v j 0))
+      → fieldsOf s ≡ Read (getD v 0 0) (getD v 1 0) (getD v 2 0) (getD v 3 0)
+  unfolding fieldsOf four
+  right-columns v h =
+      simp (eq-eqb _ _ e, h 0 (omega arith), h 1 (omega arith), h 2 (omega arith), h 3 (omega arith))
+
+-- one more column is stored
+pub one-more :
+    (s v : List ℕ) (k n : ℕ) → k < length v
+    → ((j : ℕ) → j < k → columnOf (cut widths j s) ≡ Value (getD v j 0)) → columnOf (cut widths k s) ≡ Value n
+    → (j : ℕ) → j < k + 1 → columnOf (cut widths j s) ≡ Value (getD (set v k n) j 0)
+one-more s v k n l h e j u = pick (decLt j k)
+  where
+    pick : Dec (j < k) → columnOf (cut widths j s) ≡ Value (getD (set v k n) j 0)
+    pick (yes p) = rw (getD-set-other v k j n 0 (λ q. omega arith)) (h j p)
+    pick (no m) = let q : j ≡ k = omega (arith, m) in rw (q, getD-set-same v k n 0) e

@@ -1,0 +1,7 @@
+pub mod Reading
+pub mod Columns
+pub mod Table
+pub mod Writing
+pub mod RoundTrip
+pub mod Calls
+pub mod Clear

@@ -1,0 +1,104 @@
+-- What a column says, byte by byte: the laws of its reading. Assumes nothing.
+use Prim.Native.Nat.{ℕ, zero, suc, _+_, _-_, _*_, _^_, _≤_, _<_}
+use mathlib.Core.Path.{_≡_, refl}
+use mathlib.Core.Bool.{Bool, true, false, cond, _&&_, true≢false}
+use mathlib.Core.List.{List, [], _∷_}
+use native.Mathlib.Nat.{add-zero}
+use native.Mathlib.Numerals.{add-one}
+use native.Mathlib.Omega.{arith}
+use borrow.Author.Tests.{leb-true, lt-ltb, le-ltb, eq-eqb, ne-eqb}
+use lib.Dec.{leb}
+use lib.ListN.{length, getD, drop, drop-of-length-le}
+use lib.Seq.{drop-cons}
+use Rattle.call_line.specs.declared.Number.the-variants.{Value, Wrong}
+use Rattle.call_line.specs.Column.{asciiNine, asciiSpace, asciiZero, isDigit, more, afterZero, digitsOf, leadingSpaces}
+
+-- ---- the spaces before the digits
+
+-- at the place i of the column s
+module _ (s : List ℕ) (i : ℕ) (h : i < length s) where
+  pub at-space : getD s i 0 ≡ asciiSpace → i + leadingSpaces (drop i s) ≡ i + 1 + leadingSpaces (drop (i + 1) s)
+  unfolding leadingSpaces
+  at-space e = rw (add-one, drop-cons s i 0) (simp (eq-eqb _ _ e) (omega arith))
+
+  pub at-other : (getD s i 0 ≡ asciiSpace → ⊥) → i + leadingSpaces (drop i s) ≡ i
+  unfolding leadingSpaces
+  at-other n = rw (drop-cons s i 0) (simp (ne-eqb _ _ n, add-zero))
+
+pub at-end : (s : List ℕ) (i : ℕ) → length s ≤ i → i + leadingSpaces (drop i s) ≡ i
+unfolding leadingSpaces
+at-end s i h = simp (drop-of-length-le s h, add-zero)
+
+-- ---- the digits
+
+pub no-digits : (s : List ℕ) → length s ≡ 0 → digitsOf s ≡ Wrong
+unfolding digitsOf
+no-digits [] e = refl
+no-digits (b ∷ s) e = absurd (omega arith)
+
+pub zero-alone : (s : List ℕ) → getD s 0 0 ≡ asciiZero → length s ≡ 1 → digitsOf s ≡ Value 0
+unfolding digitsOf afterZero
+zero-alone [] e l = absurd (omega arith)
+zero-alone (b ∷ []) e l = simp (eq-eqb _ _ e)
+zero-alone (b ∷ d ∷ s) e l = absurd (omega arith)
+
+pub leading-zero : (s : List ℕ) → getD s 0 0 ≡ asciiZero → (length s ≡ 0 → ⊥) → (length s ≡ 1 → ⊥) → digitsOf s ≡ Wrong
+unfolding digitsOf afterZero
+leading-zero [] e m n = absurd (m refl)
+leading-zero (b ∷ []) e m n = absurd (n refl)
+leading-zero (b ∷ d ∷ s) e m n = simp (eq-eqb _ _ e)
+
+pub no-leading-zero : (s : List ℕ) → (length s ≡ 0 → ⊥) → (getD s 0 0 ≡ asciiZero → ⊥) → digitsOf s ≡ more 0 s
+unfolding digitsOf
+no-leading-zero [] m n = absurd (m refl)
+no-leading-zero (b ∷ s) m n = simp (ne-eqb _ _ n)
+
+pub more-end : (s : List ℕ) (i v : ℕ) → length s ≤ i → more v (drop i s) ≡ Value v
+unfolding more
+more-end s i v h = simp (drop-of-length-le s h)
+
+pub digit-bounds : (b : ℕ) → isDigit b ≡ true → (asciiZero ≤ b) × (b ≤ asciiNine)
+unfolding isDigit
+digit-bounds b e = pick (leb asciiZero b) (leb b asciiNine) refl refl e
+  where
+    pick : (t u : Bool) → leb asciiZero b ≡ t → leb b asciiNine ≡ u → t && u ≡ true → (asciiZero ≤ b) × (b ≤ asciiNine)
+    pick true true p q r = (leb-true _ _ p, leb-true _ _ q)
+    pick true false p q r = let z : true ≡ false = cc in absurd (true≢false z)
+    pick false u p q r = let z : true ≡ false = cc in absurd (true≢false z)
+
+module _ (s : List ℕ) (i v : ℕ) (h : i < length s) (d : isDigit (getD s i 0) ≡ true) where
+  pub more-over : 2 ^ 64 ≤ v * 10 + (getD s i 0 - asciiZero) → more v (drop i s) ≡ Wrong
+  unfolding more
+  more-over l = rw (drop-cons s i 0) (simp (d, le-ltb _ _ l))
+
+  pub more-on : v * 10 + (getD s i 0 - asciiZero) < 2 ^ 64 → more v (drop i s) ≡ more (v * 10 + (getD s i 0 - asciiZero)) (drop (i + 1) s)
+  unfolding more
+  more-on l = rw (add-one, drop-cons s i 0) (simp (d, lt-ltb _ _ l))
+
+-- ---- a byte that is no digit
+
+wrong-either : (t : Bool) → cond t Wrong Wrong ≡ Wrong
+wrong-either true = refl
+wrong-either false = refl
+
+more-wrong : (v : ℕ) (s : List ℕ) (i : ℕ) → i < length s → isDigit (getD s i 0) ≡ false → more v s ≡ Wrong
+unfolding more
+more-wrong v [] i h o = absurd (omega arith)
+more-wrong v (b ∷ s) zero h o = simp o
+more-wrong v (b ∷ s) (suc i) h o = simp (more-wrong (v * 10 + (b - asciiZero)) s i (omega arith) o, wrong-either)
+
+not-alone : (s : List ℕ) (i : ℕ) → i < length s → afterZero s ≡ Wrong
+unfolding afterZero
+not-alone [] i h = absurd (omega arith)
+not-alone (x ∷ s) i h = refl
+
+not-zero : (b : ℕ) → isDigit b ≡ false → b ≡ asciiZero → ⊥
+unfolding isDigit
+not-zero b o e = true≢false (rw e at o)
+
+pub no-digit : (s : List ℕ) (i : ℕ) → i < length s → isDigit (getD s i 0) ≡ false → digitsOf s ≡ Wrong
+unfolding digitsOf
+no-digit [] i h o = absurd (omega arith)
+no-digit (b ∷ s) zero h o = simp (ne-eqb _ _ (not-zero b o), more-wrong 0 (b ∷ s) 0 h o)
+no-digit (b ∷ s) (suc i) h o =
+    simp (more-wrong 0 (b ∷ s) (suc i) h o, not-alone s i (omega arith), wrong-either)

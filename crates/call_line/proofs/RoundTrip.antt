@@ -1,0 +1,261 @@
+-- Writing a column and reading it gives the number; reading a column and writing the number gives the column. Assumes nothing.
+use Prim.Native.Nat.{ℕ, zero, suc, _+_, _-_, _*_, _/_, _%_, _^_, _≤_, _<_}
+use mathlib.Core.Path.{_≡_, refl, sym, ap, _∙_}
+use mathlib.Core.Bool.{Bool, true, false, cond}
+use mathlib.Core.List.{List, [], _∷_, _++_, append-assoc, append-nil}
+use native.Mathlib.Decide.{decLe, decLt}
+use lib.Dec.{eqb, ltb}
+use native.Mathlib.Nat.{pow-suc, add-suc, add-zero, zero-mul, zero-add}
+use native.Mathlib.Omega.{arith}
+use borrow.Author.Tests.{le-leb, lt-leb, lt-ltb, le-ltb, eq-eqb, ne-eqb, eqb-true, eqb-false}
+use native.Mathlib.Numerals.{add-one}
+use lib.ListN.{length, getD, replicate, take, drop, length-append, length-replicate, take-append-drop, length-drop}
+use lib.Seq.{take-at, drop-at, drop-drop, length-take-le}
+use Rattle.call_line.specs.declared.Number.{Number}
+use Rattle.call_line.specs.declared.Number.the-variants.{Value, Wrong}
+use Rattle.call_line.specs.Column.{asciiNine, asciiSpace, asciiZero, isDigit, more, afterZero, digitsOf, leadingSpaces, columnOf, column, start, total, cut, row}
+use Rattle.call_line.specs.declared.Fields.the-variants.{Read, Unreadable}
+use Rattle.call_line.specs.Line.{widths, four, fieldsOf}
+use Rattle.call_line.proofs.Reading.{digit-bounds}
+use Rattle.call_line.proofs.Columns.{within}
+use Rattle.call_line.proofs.Writing.{spaces-move}
+
+-- spaces before a column say nothing
+spaces : (k : ℕ) (s : List ℕ) → columnOf (replicate k asciiSpace ++ s) ≡ columnOf s
+unfolding columnOf leadingSpaces
+spaces zero s = refl
+spaces (suc k) s = spaces k s
+
+-- a digit's byte, first and later
+digit-byte : (d : ℕ) → d < 10 → isDigit (asciiZero + d) ≡ true
+unfolding isDigit
+digit-byte d u = simp (le-leb asciiZero (asciiZero + d) (omega arith), le-leb (asciiZero + d) asciiNine (omega arith))
+
+first-digit : (d : ℕ) (s : List ℕ) → 0 < d → d < 10 → columnOf ((asciiZero + d) ∷ s) ≡ more d s
+unfolding columnOf leadingSpaces digitsOf more
+first-digit d s l u =
+    simp (
+      ne-eqb (asciiZero + d) asciiSpace (λ e. omega arith),
+      ne-eqb (asciiZero + d) asciiZero (λ e. omega arith),
+      digit-byte d u,
+      lt-ltb (0 * 10 + (asciiZero + d - asciiZero)) (2 ^ 64) (omega arith),
+    )
+    (ap (λ (v : ℕ). more v s) (omega arith))
+
+next-digit : (v d : ℕ) (s : List ℕ) → d < 10 → v * 10 + d < 2 ^ 64 → more v ((asciiZero + d) ∷ s) ≡ more (v * 10 + d) s
+unfolding more
+next-digit v d s u f =
+    simp (digit-byte d u, lt-ltb (v * 10 + (asciiZero + d - asciiZero)) (2 ^ 64) (omega arith))
+    (ap (λ (v : ℕ). more v s) (omega arith))
+
+-- the number written is the number that the rest goes on from
+written : (w n : ℕ) (s : List ℕ) → 0 < n → n < 10 ^ w → n < 2 ^ 64 → columnOf (column w n ++ s) ≡ more n s
+unfolding column
+written zero n s l u f = absurd (omega arith)
+written (suc w) n s l u f = pick (written w (n / 10)) (decLt n 10)
+  where
+    pick :
+        ((t : List ℕ) → 0 < n / 10 → n / 10 < 10 ^ w → n / 10 < 2 ^ 64 → columnOf (column w (n / 10) ++ t) ≡ more (n / 10) t)
+        → Dec (n < 10) → columnOf (column (suc w) n ++ s) ≡ more n s
+    pick ih (yes p) =
+        simp (lt-ltb _ _ p, append-assoc, spaces)
+        (ap (λ (d : ℕ). columnOf ((asciiZero + d) ∷ s)) (omega arith) ∙ first-digit n s l p)
+    pick ih (no m) =
+        let g : 10 ≤ n = omega (arith, m) in
+        simp (le-ltb _ _ g, append-assoc)
+        (ih ((asciiZero + n % 10) ∷ s) (omega arith) (omega (arith, pow-suc 10 w)) (omega arith)
+        ∙ next-digit (n / 10) (n % 10) s (omega arith) (omega arith)
+        ∙ ap (λ (v : ℕ). more v s) (omega arith))
+
+-- write, then read
+pub read-written : (w n : ℕ) → 0 < w → n < 10 ^ w → n < 2 ^ 64 → columnOf (column w n) ≡ Value n
+unfolding column columnOf leadingSpaces digitsOf more afterZero
+read-written zero n l u f = absurd (omega arith)
+read-written (suc w) zero l u f = spaces w (asciiZero ∷ [])
+read-written (suc w) (suc n) l u f =
+    sym (ap columnOf (append-nil (column (suc w) (suc n)))) ∙ written (suc w) (suc n) [] (omega arith) u f
+
+-- more digits, read backwards: what a Value says of the bytes
+record Digit (v b n : ℕ) (s : List ℕ) : Type 0 where
+  low : asciiZero ≤ b
+  high : b ≤ asciiNine
+  rest : more (v * 10 + (b - asciiZero)) s ≡ Value n
+
+digit : (v b n : ℕ) (s : List ℕ) → more v (b ∷ s) ≡ Value n → Digit v b n s
+unfolding more
+digit v b n s e = pick (isDigit b) (ltb (v * 10 + (b - asciiZero)) (2 ^ 64)) refl refl
+  where
+    pick : (t u : Bool) → isDigit b ≡ t → ltb (v * 10 + (b - asciiZero)) (2 ^ 64) ≡ u → Digit v b n s
+    pick true true p q = record { low = digit-bounds b p .0; high = digit-bounds b p .1; rest = simp (p, q) at e }
+    pick true false p q =
+        let w : Wrong ≡ Value n = simp (p, q) at e in
+        let z : _≡_ {A = ℕ} 0 1 = cc in absurd (omega arith)
+    pick false u p q =
+        let w : Wrong ≡ Value n = simp p at e in
+        let z : _≡_ {A = ℕ} 0 1 = cc in absurd (omega arith)
+
+-- a digit more in a column
+column-more : (w v b : ℕ) → 0 < v → asciiZero ≤ b → b ≤ asciiNine → column (suc w) (v * 10 + (b - asciiZero)) ≡ column w v ++ (b ∷ [])
+unfolding column
+column-more w v b l lo hi =
+    let g : 10 ≤ v * 10 + (b - asciiZero) = omega arith in
+    let q : (v * 10 + (b - asciiZero)) / 10 ≡ v = omega arith in
+    let r : asciiZero + (v * 10 + (b - asciiZero)) % 10 ≡ b = omega arith in
+    simp (le-ltb _ _ g, q, r)
+
+-- a column's first digit
+column-first : (k b : ℕ) → asciiZero ≤ b → b ≤ asciiNine → column (suc k) (b - asciiZero) ≡ replicate k asciiSpace ++ (b ∷ [])
+unfolding column
+column-first k b lo hi =
+    let g : b - asciiZero < 10 = omega arith in
+    let r : asciiZero + (b - asciiZero) % 10 ≡ b = omega arith in
+    simp (lt-ltb _ _ g, r)
+
+rest-is : (t : List ℕ) (w v n : ℕ) → 0 < v → more v t ≡ Value n → column w v ++ t ≡ column (w + length t) n
+unfolding more
+rest-is [] w v n l e = let q : v ≡ n = cc in simp (append-nil, add-zero, q)
+rest-is (b ∷ t) w v n l e =
+    let d = digit v b n t e in
+    sym (append-assoc (column w v) (b ∷ []) t)
+    ∙ ap (λ (x : List ℕ). x ++ t) (sym (column-more w v b l (d .low) (d .high)))
+    ∙ rest-is t (suc w) (v * 10 + (b - asciiZero)) n (omega arith) (d .rest)
+    ∙ ap (λ (x : ℕ). column x n) (omega arith)
+
+zero-is : (s : List ℕ) (k n : ℕ) → afterZero s ≡ Value n → replicate k asciiSpace ++ (asciiZero ∷ s) ≡ column (k + suc (length s)) n
+unfolding afterZero
+zero-is [] k n e = let q : 0 ≡ n = cc in rw (← q, add-suc, add-zero) (sym (column-first k asciiZero (omega arith) (omega arith)))
+zero-is (b ∷ s) k n e = let z : _≡_ {A = ℕ} 0 1 = cc in absurd (omega arith)
+
+whole-is : (s : List ℕ) (k n : ℕ) → columnOf s ≡ Value n → replicate k asciiSpace ++ s ≡ column (k + length s) n
+unfolding columnOf leadingSpaces digitsOf
+whole-is [] k n e = let z : _≡_ {A = ℕ} 0 1 = cc in absurd (omega arith)
+whole-is (b ∷ s) k n e = blank (whole-is s (suc k) n) (eqb b asciiSpace) refl
+  where
+    nought : (t : Bool) → eqb b asciiSpace ≡ false → eqb b asciiZero ≡ t → replicate k asciiSpace ++ (b ∷ s) ≡ column (k + suc (length s)) n
+    nought true f q = rw (eqb-true b asciiZero q) (zero-is s k n (simp (f, q) at e))
+    nought false f q =
+        let d = digit 0 b n s (simp (f, q) at e) in
+        let p : b ≡ asciiZero → ⊥ = eqb-false b asciiZero q in
+        sym (append-assoc (replicate k asciiSpace) (b ∷ []) s)
+        ∙ ap (λ (x : List ℕ). x ++ s) (sym (column-first k b (d .low) (d .high)))
+        ∙ rest-is s (suc k) (b - asciiZero) n (omega (arith, d .low)) (rw (zero-mul 10, zero-add (b - asciiZero)) at (d .rest))
+        ∙ ap (λ (x : ℕ). column x n) (omega arith)
+
+    blank :
+        (columnOf s ≡ Value n → replicate (suc k) asciiSpace ++ s ≡ column (suc k + length s) n) → (t : Bool) → eqb b asciiSpace ≡ t → replicate k asciiSpace ++ (b ∷ s) ≡ column (k + suc (length s)) n
+    blank ih true q =
+        rw (eqb-true b asciiSpace q)
+        (sym (spaces-move k s) ∙ ih (simp q at e) ∙ ap (λ (x : ℕ). column x n) (omega arith))
+    blank ih false q = nought (eqb b asciiZero) q refl
+
+-- read, then write
+pub written-read : (s : List ℕ) (n : ℕ) → columnOf s ≡ Value n → column (length s) n ≡ s
+written-read s n e = sym (rw zero-add at (whole-is s 0 n e))
+
+-- a column is as wide as asked
+pub length-column : (w n : ℕ) → length (column w n) ≡ w
+unfolding column
+length-column zero n = refl
+length-column (suc w) n =
+    length-append (cond (ltb n 10) (replicate w asciiSpace) (column w (n / 10))) ((asciiZero + n % 10) ∷ [])
+    ∙ ap (λ (k : ℕ). k + 1) (both (length-column w (n / 10)) (ltb n 10)) ∙ add-one w
+  where
+    both : length (column w (n / 10)) ≡ w → (t : Bool) → length (cond t (replicate w asciiSpace) (column w (n / 10))) ≡ w
+    both e true = length-replicate w asciiSpace
+    both e false = e
+
+-- ---- columns beside each other
+
+-- a row is as wide as its columns
+pub length-row : (ws ns : List ℕ) → length ws ≡ length ns → length (row ws ns) ≡ total ws
+unfolding row
+length-row [] ns e = refl
+length-row (w ∷ ws) [] e = absurd (omega arith)
+length-row (w ∷ ws) (n ∷ ns) e = simp (length-append, length-column, length-row ws ns (omega arith))
+
+-- its column j is the number j
+pub cut-row :
+    (ws ns : List ℕ) → length ws ≡ length ns → (j : ℕ) → j < length ws → cut ws j (row ws ns) ≡ column (getD ws j 0) (getD ns j 0)
+unfolding row
+cut-row [] ns e j h = absurd (omega arith)
+cut-row (w ∷ ws) [] e j h = absurd (omega arith)
+cut-row (w ∷ ws) (n ∷ ns) e zero h = take-at (column w n) (row ws ns) w (length-column w n)
+cut-row (w ∷ ws) (n ∷ ns) e (suc j) h =
+    ap (take (getD ws j 0))
+    (sym (drop-drop (start ws j) w (column w n ++ row ws ns))
+    ∙ ap (drop (start ws j)) (drop-at (column w n) (row ws ns) w (length-column w n)))
+    ∙ cut-row ws ns (omega arith) j (omega arith)
+
+-- a text whose columns are the numbers is their row
+pub row-of-cuts :
+    (ws ns s : List ℕ) → length ws ≡ length ns → length s ≡ total ws
+    → ((j : ℕ) → j < length ws → column (getD ws j 0) (getD ns j 0) ≡ cut ws j s) → row ws ns ≡ s
+unfolding row
+row-of-cuts [] ns [] e l h = refl
+row-of-cuts [] ns (b ∷ s) e l h = absurd (omega arith)
+row-of-cuts (w ∷ ws) [] s e l h = absurd (omega arith)
+row-of-cuts (w ∷ ws) (n ∷ ns) s e l h =
+    rw (h 0 (omega arith), row-of-cuts ws ns (drop w s) (omega arith) (omega (arith, length-drop w s)) (λ j u. h (suc j) (omega arith) ∙ ap (take (getD ws j 0)) (sym (drop-drop (start ws j) w s))))
+    (take-append-drop w s)
+
+-- ---- a line
+
+-- a column of w places has room for n, and a reader takes it
+abbrev pub Fits : ℕ → ℕ → Type 0
+Fits w n = (n < 10 ^ w) × (n < 2 ^ 64)
+
+-- write a line, then read it
+pub line-written :
+    (k a b c : ℕ) → Fits (getD widths 0 0) k → Fits (getD widths 1 0) a → Fits (getD widths 2 0) b → Fits (getD widths 3 0) c
+    → fieldsOf (row widths (k ∷ a ∷ b ∷ c ∷ [])) ≡ Read k a b c
+unfolding fieldsOf four
+line-written k a b c fk fa fb fc =
+    let ns : List ℕ = k ∷ a ∷ b ∷ c ∷ [] in
+    simp (
+      eq-eqb _ _ (length-row widths ns refl),
+      ap columnOf (cut-row widths ns refl 0 (omega arith)) ∙ read-written (getD widths 0 0) k (omega arith) (fk .0) (fk .1),
+      ap columnOf (cut-row widths ns refl 1 (omega arith)) ∙ read-written (getD widths 1 0) a (omega arith) (fa .0) (fa .1),
+      ap columnOf (cut-row widths ns refl 2 (omega arith)) ∙ read-written (getD widths 2 0) b (omega arith) (fb .0) (fb .1),
+      ap columnOf (cut-row widths ns refl 3 (omega arith)) ∙ read-written (getD widths 3 0) c (omega arith) (fc .0) (fc .1),
+    )
+
+-- fields that were read are four numbers
+were-four :
+    (x y z w : Number) (k a b c : ℕ) → four x y z w ≡ Read k a b c
+    → (x ≡ Value k) × (y ≡ Value a) × (z ≡ Value b) × (w ≡ Value c)
+unfolding four
+were-four (Value l) (Value m) (Value n) (Value o) k a b c e = (cc, cc, cc, cc)
+were-four (Value l) (Value m) (Value n) Wrong k a b c e = let z : _≡_ {A = ℕ} 0 1 = cc in absurd (omega arith)
+were-four (Value l) (Value m) Wrong w k a b c e = let z : _≡_ {A = ℕ} 0 1 = cc in absurd (omega arith)
+were-four (Value l) Wrong z w k a b c e = let z : _≡_ {A = ℕ} 0 1 = cc in absurd (omega arith)
+were-four Wrong y z w k a b c e = let z : _≡_ {A = ℕ} 0 1 = cc in absurd (omega arith)
+
+-- read a line, then write it
+pub line-read : (s : List ℕ) (k a b c : ℕ) → fieldsOf s ≡ Read k a b c → row widths (k ∷ a ∷ b ∷ c ∷ []) ≡ s
+unfolding fieldsOf
+line-read s k a b c e = pick (eqb (length s) (total widths)) refl
+  where
+    field : length s ≡ total widths → (j n : ℕ) → j < 4 → columnOf (cut widths j s) ≡ Value n → column (getD widths j 0) n ≡ cut widths j s
+    field l j n h q =
+        let w : length (cut widths j s) ≡ getD widths j 0 =
+        length-take-le (getD widths j 0) (drop (start widths j) s) (omega (arith, length-drop (start widths j) s, within j h)) in
+        ap (λ (x : ℕ). column x n) (sym w) ∙ written-read (cut widths j s) n q
+
+    pick : (t : Bool) → eqb (length s) (total widths) ≡ t → row widths (k ∷ a ∷ b ∷ c ∷ []) ≡ s
+    pick true q =
+        let l : length s ≡ total widths = eqb-true (length s) (total widths) q in
+        let f = were-four (columnOf (cut widths 0 s)) (columnOf (cut widths 1 s)) (columnOf (cut widths 2 s)) (columnOf (cut widths 3 s)) k a b c (simp q at e) in
+        row-of-cuts widths (k ∷ a ∷ b ∷ c ∷ []) s refl l (each l f)
+      where
+        each :
+            length s ≡ total widths
+            → (columnOf (cut widths 0 s) ≡ Value k) × (columnOf (cut widths 1 s) ≡ Value a) × (columnOf (cut widths 2 s) ≡ Value b) × (columnOf (cut widths 3 s) ≡ Value c)
+            → (j : ℕ) → j < 4 → column (getD widths j 0) (getD (k ∷ a ∷ b ∷ c ∷ []) j 0) ≡ cut widths j s
+        each l f zero h = field l 0 k h (f .0)
+        each l f (suc zero) h = field l 1 a h (f .1)
+        each l f (suc (suc zero)) h = field l 2 b h (f .2)
+        each l f (suc (suc (suc zero))) h = field l 3 c h (f .3)
+        each l f (suc (suc (suc (suc j)))) h = absurd (omega arith)
+    pick false q =
+        let u : Unreadable ≡ Read k a b c = simp q at e in
+        let z : _≡_ {A = ℕ} 0 1 = cc in absurd (omega arith)

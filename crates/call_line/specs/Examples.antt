@@ -1,0 +1,148 @@
+-- Worked examples of the definitions beside this file, which antt computes. They test the definitions; no proof cites them.
+use Prim.Native.Nat.{ℕ, _+_, _-_, _*_, _^_}
+use mathlib.Core.Path.{_≡_, refl}
+use mathlib.Core.List.{List, [], _∷_, _++_, map}
+use lib.Ieee.{ofBits, toBits, lt}
+use lib.ListN.{replicate}
+use Rattle.float.specs.Rust.{signBit}
+use Rattle.packets.specs.Summary.{packetRefusal}
+use Rattle.loss_controller.specs.Setters.{rateRefusal, timeRefusal}
+use Rattle.call_line.specs.declared.Number.the-variants.{Value, Wrong}
+use Rattle.call_line.specs.declared.Call.the-variants.{Estimate, Acknowledged, AlrOn, AlrOff, CapacityIs, CapacityNone, Packet, Report, Read}
+use Rattle.call_line.specs.declared.Line.the-variants.{Taken, Refused, ReportRefused}
+use Rattle.call_line.specs.Column.{isDigit, more, afterZero, digitsOf, leadingSpaces, columnOf, column, row}
+use Rattle.call_line.specs.Line.{widths, four, fieldsOf, inTable, unlessRefused, byFlag, reportOf, alrOf, capacityOf, packetOf, callOf, checked, lineOf}
+
+-- ---- columns
+
+-- " 0", "10", " 7", "00", "07", "7 ", "  ", "x1", "-1", "1" in one place, and no place
+columns :
+    map columnOf
+    ((32 ∷ 48 ∷ [])
+    ∷ (49 ∷ 48 ∷ [])
+    ∷ (32 ∷ 55 ∷ [])
+    ∷ (48 ∷ 48 ∷ [])
+    ∷ (48 ∷ 55 ∷ [])
+    ∷ (55 ∷ 32 ∷ [])
+    ∷ (32 ∷ 32 ∷ [])
+    ∷ (120 ∷ 49 ∷ [])
+    ∷ (45 ∷ 49 ∷ [])
+    ∷ (49 ∷ [])
+    ∷ []
+    ∷ []) ≡
+    Value 0 ∷ Value 10 ∷ Value 7 ∷ Wrong ∷ Wrong ∷ Wrong ∷ Wrong ∷ Wrong ∷ Wrong ∷ Value 1 ∷ Wrong ∷ []
+unfolding columnOf leadingSpaces digitsOf isDigit more afterZero
+columns = refl
+
+-- the largest number, 18446744073709551615, and the next, 18446744073709551616
+largest :
+    columnOf (49 ∷ 56 ∷ 52 ∷ 52 ∷ 54 ∷ 55 ∷ 52 ∷ 52 ∷ 48 ∷ 55 ∷ 51 ∷ 55 ∷ 48 ∷ 57 ∷ 53 ∷ 53 ∷ 49 ∷ 54 ∷ 49 ∷ 53 ∷ []) ≡ Value (2 ^ 64 - 1)
+unfolding columnOf leadingSpaces digitsOf isDigit more afterZero
+largest = refl
+
+too-large :
+    columnOf (49 ∷ 56 ∷ 52 ∷ 52 ∷ 54 ∷ 55 ∷ 52 ∷ 52 ∷ 48 ∷ 55 ∷ 51 ∷ 55 ∷ 48 ∷ 57 ∷ 53 ∷ 53 ∷ 49 ∷ 54 ∷ 49 ∷ 54 ∷ []) ≡ Wrong
+unfolding columnOf leadingSpaces digitsOf isDigit more afterZero
+too-large = refl
+
+-- 0, 7, 10 and 100 in two places: of the last, what has room
+written :
+    map (column 2) (0 ∷ 7 ∷ 10 ∷ 100 ∷ []) ≡ (32 ∷ 48 ∷ []) ∷ (32 ∷ 55 ∷ []) ∷ (49 ∷ 48 ∷ []) ∷ (48 ∷ 48 ∷ []) ∷ []
+unfolding column
+written = refl
+
+-- ---- lines
+
+-- the line with these fields
+line : ℕ → ℕ → ℕ → ℕ → List ℕ
+line kind a b c = row widths (kind ∷ a ∷ b ∷ c ∷ [])
+
+-- document 01's whole example, byte by byte: an estimate of 1,000,000 bit/s, and a read
+example-estimate :
+    lineOf
+    ((32 ∷ 49 ∷ [])
+    ++ ((32 ∷ 52 ∷ 54 ∷ 57 ∷ 54 ∷ 56 ∷ 51 ∷ 55 ∷ 49 ∷ 52 ∷ 54 ∷ 54 ∷ 56 ∷ 52 ∷ 54 ∷ 56 ∷ 54 ∷ 51 ∷ 51 ∷ 54 ∷ [])
+    ++ ((replicate 19 32 ++ (48 ∷ [])) ++ (replicate 5 32 ++ (48 ∷ []))))) ≡
+    Taken (Estimate 4696837146684686336)
+unfolding lineOf checked fieldsOf four columnOf leadingSpaces digitsOf isDigit more afterZero inTable callOf unlessRefused rateRefusal ofBits toBits lt signBit
+example-estimate = refl
+
+example-read :
+    lineOf
+    ((32 ∷ 55 ∷ [])
+    ++ ((replicate 19 32 ++ (48 ∷ [])) ++ ((replicate 19 32 ++ (48 ∷ [])) ++ (replicate 5 32 ++ (48 ∷ []))))) ≡
+    Taken Read
+unfolding lineOf checked fieldsOf four columnOf leadingSpaces digitsOf isDigit more afterZero inTable callOf
+example-read = refl
+
+-- an empty line, one without its last byte, one with a CR behind it, one whose kind is "01", one whose C is blank
+out-of-shape :
+    map lineOf
+    ([]
+    ∷ ((32 ∷ 55 ∷ []) ++ ((replicate 19 32 ++ (48 ∷ [])) ++ ((replicate 19 32 ++ (48 ∷ [])) ++ replicate 5 32)))
+    ∷ (line 7 0 0 0 ++ (13 ∷ []))
+    ∷ ((48 ∷ 49 ∷ []) ++ ((replicate 19 32 ++ (48 ∷ [])) ++ ((replicate 19 32 ++ (48 ∷ [])) ++ (replicate 5 32 ++ (48 ∷ [])))))
+    ∷ ((32 ∷ 55 ∷ []) ++ ((replicate 19 32 ++ (48 ∷ [])) ++ ((replicate 19 32 ++ (48 ∷ [])) ++ replicate 6 32)))
+    ∷ []) ≡
+    replicate 5 (Refused 1)
+unfolding line row column lineOf checked fieldsOf four columnOf leadingSpaces digitsOf isDigit more afterZero inTable callOf unlessRefused rateRefusal ofBits toBits lt signBit
+out-of-shape = refl
+
+-- kinds 0 and 8; a B or a C where the table says 0; a read with an A; a packet of 65,536 bytes
+out-of-table :
+    map lineOf (line 0 0 0 0 ∷ line 8 0 0 0 ∷ line 1 0 1 0 ∷ line 2 0 0 1 ∷ line 6 0 0 1 ∷ line 7 1 0 0 ∷ line 5 0 0 65536 ∷ []) ≡
+    replicate 7 (Refused 1)
+unfolding line row column lineOf checked fieldsOf four columnOf leadingSpaces digitsOf isDigit more afterZero inTable callOf
+out-of-table = refl
+
+-- DECISIONS 1, 4 and 18. ALR: on at 0 ns, at 4 × 10^18 ns and a ns later; off, and off with a start; the flag 2, also with a start that is too late; the flag 2 and a C
+alr :
+    map lineOf
+    (line 3 0 1 0
+    ∷ line 3 (4 * 10 ^ 18) 1 0
+    ∷ line 3 (4 * 10 ^ 18 + 1) 1 0
+    ∷ line 3 0 0 0
+    ∷ line 3 1 0 0
+    ∷ line 3 1 2 0
+    ∷ line 3 (4 * 10 ^ 18 + 1) 2 0
+    ∷ line 3 1 2 1
+    ∷ []) ≡
+    Taken (AlrOn 0) ∷ Taken (AlrOn (4 * 10 ^ 18)) ∷ Refused 3 ∷ Taken AlrOff ∷ Refused 1 ∷ Refused 8 ∷ Refused 8 ∷ Refused 1 ∷ []
+unfolding line row column lineOf checked fieldsOf four columnOf leadingSpaces digitsOf isDigit more afterZero inTable callOf unlessRefused byFlag alrOf timeRefusal
+alr = refl
+
+-- the same of the capacity: +0.0, 10^15 and the next float, infinity; none, and none with a rate; the flag 2 and -0.0; the flag 2 and a C
+capacity :
+    map lineOf
+    (line 4 0 1 0
+    ∷ line 4 0x430C6BF526340000 1 0
+    ∷ line 4 0x430C6BF526340001 1 0
+    ∷ line 4 0x7FF0000000000000 1 0
+    ∷ line 4 0 0 0
+    ∷ line 4 1 0 0
+    ∷ line 4 (2 ^ 63) 2 0
+    ∷ line 4 0 2 1
+    ∷ []) ≡
+    Taken (CapacityIs 0) ∷ Taken (CapacityIs 0x430C6BF526340000) ∷ Refused 2 ∷ Taken (CapacityIs 0x7FF0000000000000) ∷ Taken CapacityNone ∷ Refused 1 ∷ Refused 8 ∷ Refused 1 ∷ []
+unfolding line row column lineOf checked fieldsOf four columnOf leadingSpaces digitsOf isDigit more afterZero inTable callOf unlessRefused byFlag capacityOf rateRefusal ofBits toBits lt signBit
+capacity = refl
+
+-- packets: the largest; too late, also with the flag 2; the flag 2, and the largest flag
+packets :
+    map lineOf
+    (line 5 (4 * 10 ^ 18) 1 65535
+    ∷ line 5 (4 * 10 ^ 18 + 1) 0 0
+    ∷ line 5 (4 * 10 ^ 18 + 1) 2 0
+    ∷ line 5 0 2 0
+    ∷ line 5 0 (2 ^ 64 - 1) 0
+    ∷ []) ≡
+    Taken (Packet (4 * 10 ^ 18) 1 65535) ∷ Refused 3 ∷ Refused 3 ∷ Refused 8 ∷ Refused 8 ∷ []
+unfolding line row column lineOf checked fieldsOf four columnOf leadingSpaces digitsOf isDigit more afterZero inTable callOf unlessRefused packetOf packetRefusal
+packets = refl
+
+-- rates: -0.0 is refused, a NaN is taken; a report that is refused with 2 empties the queue, and one with 1 does not
+rates :
+    map lineOf (line 1 (2 ^ 63) 0 0 ∷ line 2 0xFFF8000000000001 0 0 ∷ line 6 0x7FF0000000000000 0 0 ∷ line 6 (2 ^ 63) 0 0 ∷ line 6 (2 ^ 63) 1 0 ∷ []) ≡
+    Refused 2 ∷ Taken (Acknowledged 0xFFF8000000000001) ∷ Taken (Report 0x7FF0000000000000) ∷ ReportRefused 2 ∷ Refused 1 ∷ []
+unfolding line row column lineOf checked fieldsOf four columnOf leadingSpaces digitsOf isDigit more afterZero inTable callOf unlessRefused reportOf rateRefusal ofBits toBits lt signBit
+rates = refl

@@ -1,0 +1,319 @@
+// A call list's lines and columns: what a line says, and a number written in a column.
+ghost use mathlib.Core.Path.{_≡_};
+ghost use mathlib.Core.Bool.{true};
+ghost use Prim.Native.Nat.{_≤_};
+ghost use lib.ListN.{length};
+ghost use Rattle.packets.specs.Summary.{largestPacket};
+ghost use Rattle.call_line.specs.Column.{isDigit, AllDigits, leadingSpaces, digitsOf, column};
+ghost use Rattle.call_line.specs.Line.{alone, flagged, allowed, fieldsOf, inTable, rateCode, unlessRefused, alrOf, capacityOf, packetOf, reportOf, callOf, lineOf};
+use bandwidth::Bitrate;
+use packets::PacketSize;
+
+// A line's columns: kind, A, B and C.
+const COLUMNS: usize = 4;
+
+const WIDTHS: [usize; COLUMNS] = [2, 20, 20, 6];
+
+pub const LINE_WIDTH: usize = WIDTHS[0] + WIDTHS[1] + WIDTHS[2] + WIDTHS[3];
+
+// The largest PacketSize
+const MOST_BYTES: u64 = 65_535;
+
+// What a column says.
+enum Number {
+    Value(u64),
+    Wrong,
+}
+
+enum Fields {
+    Read { kind: u64, a: u64, b: u64, c: u64 },
+    Unreadable,
+}
+
+// Rates are the 64 bits of an f64, times are in ns, `lost` is 1 or 0.
+pub enum Call {
+    Estimate(u64),
+    Acknowledged(u64),
+    AlrOn(u64),
+    AlrOff,
+    CapacityIs(u64),
+    CapacityNone,
+    Packet {
+        time: u64,
+        lost: u8,
+        size: PacketSize,
+    },
+    Report(u64),
+    Read,
+}
+
+// A call, or the number of the line's refusal. A report that is refused with another than 1 empties
+// the queue all the same.
+pub enum Line {
+    Taken(Call),
+    Refused(u8),
+    ReportRefused(u8),
+}
+
+fn is_digit(byte: u8) -> bool
+    ensures { λ r. ⌜ r ≡ isDigit byte ⌝ }
+{
+    if byte < b'0' {
+        return false;
+    }
+    byte <= b'9'
+}
+
+fn leading_spaces(column: &[u8]) -> usize
+    ensures { λ r. ⌜ r ≡ leadingSpaces (now (column .entry)) ⌝ }
+{
+    let mut i = 0;
+    while i < column.len() {
+        if column[i] != b' ' {
+            return i;
+        }
+        i += 1;
+    }
+    i
+}
+
+// Wrong without digits, with a zero before others, and above 2^64 - 1.
+fn read_number(digits: &[u8]) -> Number
+    requires { ⌜ AllDigits (now digits) ⌝ }
+    ensures { λ r. ⌜ r ≡ digitsOf (now (digits .entry)) ⌝ }
+{
+    if digits.len() == 0 {
+        return Number::Wrong;
+    }
+    if digits[0] == b'0' {
+        if digits.len() == 1 {
+            return Number::Value(0);
+        }
+        return Number::Wrong;
+    }
+    let mut value: u64 = 0;
+    let mut i = 0;
+    while i < digits.len() {
+        let byte = digits[i];
+        let digit = (byte - b'0') as u64;
+        if value > (u64::MAX - digit) / 10 {
+            return Number::Wrong;
+        }
+        value = value * 10 + digit;
+        i += 1;
+    }
+    Number::Value(value)
+}
+
+// The first wrong column ends the reading.
+fn read_fields(line: &[u8]) -> Fields
+    ensures { λ r. ⌜ r ≡ fieldsOf (now (line .entry)) ⌝ }
+{
+    if line.len() != LINE_WIDTH {
+        return Fields::Unreadable;
+    }
+    let mut values = [0u64; COLUMNS];
+    let mut from = 0;
+    let mut k = 0;
+    'columns: while k < COLUMNS {
+        let to = from + WIDTHS[k];
+        let first = from + leading_spaces(&line[from..to]);
+        let mut i = first;
+        while i < to {
+            if !is_digit(line[i]) {
+                break 'columns;
+            }
+            i += 1;
+        }
+        match read_number(&line[first..to]) {
+            Number::Value(value) => {
+                values[k] = value;
+            }
+            Number::Wrong => {
+                break 'columns;
+            }
+        }
+        from = to;
+        k += 1;
+    }
+    if k < COLUMNS {
+        return Fields::Unreadable;
+    }
+    let kind = values[0];
+    let a = values[1];
+    let b = values[2];
+    let c = values[3];
+    Fields::Read { kind, a, b, c }
+}
+
+// B and C are 0.
+fn a_alone(b: u64, c: u64) -> bool
+    ensures { λ r. ⌜ r ≡ allowed alone 0 b c ⌝ }
+{
+    if b != 0 {
+        return false;
+    }
+    c == 0
+}
+
+// C is 0, and A is 0 where the flag B is.
+fn a_with_flag(a: u64, b: u64, c: u64) -> bool
+    ensures { λ r. ⌜ r ≡ allowed flagged a b c ⌝ }
+{
+    if c != 0 {
+        return false;
+    }
+    if b != 0 {
+        return true;
+    }
+    a == 0
+}
+
+// Whether the table of kinds allows the fields.
+fn in_table(kind: u64, a: u64, b: u64, c: u64) -> bool
+    ensures { λ r. ⌜ r ≡ inTable kind a b c ⌝ }
+{
+    match kind {
+        1..=2 | 6 => a_alone(b, c),
+        3..=4 => a_with_flag(a, b, c),
+        5 => c <= MOST_BYTES,
+        7 => {
+            if a != 0 {
+                return false;
+            }
+            a_alone(b, c)
+        }
+        _ => false,
+    }
+}
+
+fn rate_refusal(bits: u64) -> u8
+    ensures { λ r. ⌜ r ≡ rateCode bits ⌝ }
+{
+    let rate = Bitrate {
+        bps: float::from_bits(bits),
+    };
+    loss_controller::rate_refusal(rate)
+}
+
+fn unless_refused(refusal: u8, call: Call) -> Line
+    ensures { λ r. ⌜ r ≡ unlessRefused refusal call ⌝ }
+{
+    if refusal != 0 {
+        return Line::Refused(refusal);
+    }
+    Line::Taken(call)
+}
+
+fn alr(a: u64, b: u64) -> Line
+    ensures { λ r. ⌜ r ≡ alrOf a b ⌝ }
+{
+    if b == 0 {
+        return Line::Taken(Call::AlrOff);
+    }
+    if b != 1 {
+        return Line::Refused(8);
+    }
+    let call = Call::AlrOn(a);
+    unless_refused(loss_controller::time_refusal(a), call)
+}
+
+fn capacity(a: u64, b: u64) -> Line
+    ensures { λ r. ⌜ r ≡ capacityOf a b ⌝ }
+{
+    if b == 0 {
+        return Line::Taken(Call::CapacityNone);
+    }
+    if b != 1 {
+        return Line::Refused(8);
+    }
+    let call = Call::CapacityIs(a);
+    unless_refused(rate_refusal(a), call)
+}
+
+// 3 before 8, as the report's.
+fn packet(a: u64, b: u64, c: u64) -> Line
+    requires { ⌜ c ≤ largestPacket ⌝ }
+    ensures { λ r. ⌜ r ≡ packetOf a b c ⌝ }
+{
+    if a > packets::LATEST_TIME {
+        return Line::Refused(3);
+    }
+    if b > 1 {
+        return Line::Refused(8);
+    }
+    Line::Taken(Call::Packet {
+        time: a,
+        lost: b as u8,
+        size: c as PacketSize,
+    })
+}
+
+fn report(a: u64) -> Line
+    ensures { λ r. ⌜ r ≡ reportOf a ⌝ }
+{
+    let refusal = rate_refusal(a);
+    if refusal != 0 {
+        return Line::ReportRefused(refusal);
+    }
+    Line::Taken(Call::Report(a))
+}
+
+// The call of fields that the table allows.
+fn call_of(kind: u64, a: u64, b: u64, c: u64) -> Line
+    requires { ⌜ inTable kind a b c ≡ true ⌝ }
+    ensures { λ r. ⌜ r ≡ callOf kind a b c ⌝ }
+{
+    match kind {
+        1 => {
+            let call = Call::Estimate(a);
+            unless_refused(rate_refusal(a), call)
+        }
+        2 => {
+            let call = Call::Acknowledged(a);
+            unless_refused(rate_refusal(a), call)
+        }
+        3 => alr(a, b),
+        4 => capacity(a, b),
+        5 => packet(a, b, c),
+        6 => report(a),
+        7 => Line::Taken(Call::Read),
+        _ => Line::Refused(1),
+    }
+}
+
+// What a line says, its newline left out.
+pub fn read_line(line: &[u8]) -> Line
+    ensures { λ r. ⌜ r ≡ lineOf (now (line .entry)) ⌝ }
+{
+    match read_fields(line) {
+        Fields::Read { kind, a, b, c } => {
+            if in_table(kind, a, b, c) {
+                call_of(kind, a, b, c)
+            } else {
+                Line::Refused(1)
+            }
+        }
+        Fields::Unreadable => Line::Refused(1),
+    }
+}
+
+// Fills the column with n, right-justified with spaces. Of a number with more digits than the column
+// has places, the last are written.
+pub fn write_number(out: &mut [u8], n: u64)
+    ensures { λ _. ⌜ now (out .exit) ≡ column (length (now (out .entry))) n ⌝ }
+{
+    let mut i = out.len();
+    let mut rest = n;
+    let mut blank = false;
+    while i > 0 {
+        i -= 1;
+        if blank {
+            out[i] = b' ';
+        } else {
+            out[i] = b'0' + (rest % 10) as u8;
+            blank = rest < 10;
+            rest /= 10;
+        }
+    }
+}

@@ -1,0 +1,5 @@
+pub mod Laying
+pub mod Lines
+pub mod Turning
+pub mod Feeding
+pub mod Streaming

@@ -1,0 +1,108 @@
+-- The program byte by byte, and what its functions leave. Definitions only.
+use Prim.Native.Nat.{ℕ, _+_, _/_}
+use mathlib.Core.Path.{_≡_}
+use mathlib.Core.Bool.{Bool, cond, _&&_}
+use mathlib.Core.List.{List, [], _∷_, _++_}
+use lib.Dec.{eqb, leb, ltb}
+use lib.ListN.{length, take, drop, set, replicate}
+use Rattle.loss_controller.specs.Controller.{initial}
+use Rattle.call_line.specs.Column.{total}
+use Rattle.call_line.specs.Line.{lineOf, widths}
+use Rattle.call_line.specs.declared.Line.{Line}
+use Rattle.call_list.specs.declared.Reading.{Reading}
+use Rattle.call_list.specs.declared.Session.{Session}
+use Rattle.call_list.specs.declared.State.{State}
+use Rattle.call_list.specs.declared.Fed.{Fed}
+use Rattle.call_list.specs.Answer.{Machine, Answered, machineOf, afterOf, readAfter, readingOf, rowOf}
+
+-- a line in shape is as wide as its columns
+abbrev pub width : ℕ
+width = total widths
+
+-- how many bytes of a line are kept: one more than a line in shape has
+abbrev pub kept : ℕ
+kept = width + 1
+
+-- the bytes of an answer
+abbrev pub rowWidth : ℕ
+rowWidth = 47
+
+abbrev pub blank : List ℕ
+blank = replicate kept 0
+
+-- a run: the line so far, what is between two lines, the controller's reading, and all that was written
+pub record Run : Type 0 where
+  pub line : List ℕ
+  pub len : ℕ
+  pub machine : Machine
+  pub reading : Reading
+  pub out : List ℕ
+
+-- a byte of a line; one that finds no room is not kept
+abbrev pub pushedLine : List ℕ → ℕ → ℕ → List ℕ
+pushedLine line len b = cond (ltb len kept) (set line len b) line
+
+abbrev pub pushedLen : ℕ → ℕ
+pushedLen len = cond (ltb len kept) (len + 1) len
+
+abbrev pub pushed : Run → ℕ → Run
+pushed r b =
+    record { line = pushedLine (r .line) (r .len) b; len = pushedLen (r .len); machine = r .machine; reading = r .reading; out = r .out }
+
+-- the line so far is l, and has ended
+abbrev pub told : Run → Line → Run
+told r l =
+    let a = afterOf (r .machine) l in
+    let reading = readAfter (r .reading) l (a .machine .controller) in
+    record { line = blank; len = 0; machine = a .machine; reading = reading; out = r .out ++ rowOf (a .refusal) reading }
+
+abbrev pub ended : Run → Run
+ended r = told r (lineOf (take (r .len) (r .line)))
+
+unfoldable pub step : Run → ℕ → Run
+step r b = cond (eqb b 10) (ended r) (pushed r b)
+
+unfoldable pub runs : Run → List ℕ → Run
+runs r [] = r
+runs r (b ∷ s) = runs (step r b) s
+
+-- the end of the input: a line that lacks its newline counts
+abbrev pub finished : Run → Run
+finished r = cond (eqb (r .len) 0) r (ended r)
+
+-- ---- what the functions leave
+
+abbrev pub startOf : State → List ℕ → List ℕ → List ℕ → Run
+startOf p times sizes flags =
+    record { line = p .line; len = p .len; machine = machineOf (p .session) times sizes flags; reading = p .session .reading; out = [] }
+
+-- `start`
+abbrev pub fresh : State
+fresh = record { line = blank; len = 0; session = record { controller = initial; reading = readingOf initial; queued = 0 } }
+
+-- what a function leaves that takes it to the run r
+pub record FedBy (f : Fed) (ts ss fs o : List ℕ) (r : Run) (o₀ : List ℕ) : Type 0 where
+  pub state : f .state ≡
+      record {
+        line = r .line;
+        len = r .len;
+        session = record { controller = r .machine .controller; reading = r .reading; queued = r .machine .queue .count };
+      }
+  pub written : f .written ≡ length (r .out)
+  pub times : ts ≡ r .machine .queue .times
+  pub sizes : ss ≡ r .machine .queue .sizes
+  pub flags : fs ≡ r .machine .queue .flags
+  pub out : o ≡ r .out ++ drop (length (r .out)) o₀
+
+-- whether `feed` and `finish` take what they are given: at most `kept` bytes of a line, and room for n answers
+abbrev pub roomy : ℕ → ℕ → ℕ → Bool
+roomy len n room = leb len kept && leb n (room / rowWidth)
+
+-- `feed` takes the chunk s, or is where it was
+pub record Feeds (f : Fed) (ts ss fs o : List ℕ) (p : State) (ts₀ ss₀ fs₀ s o₀ : List ℕ) : Type 0 where
+  pub taken : f .taken ≡ roomy (p .len) (length s) (length o₀)
+  pub by : FedBy f ts ss fs o (cond (roomy (p .len) (length s) (length o₀)) (runs (startOf p ts₀ ss₀ fs₀) s) (startOf p ts₀ ss₀ fs₀)) o₀
+
+pub record Finishes (f : Fed) (ts ss fs o : List ℕ) (p : State) (ts₀ ss₀ fs₀ o₀ : List ℕ) : Type 0 where
+  pub taken : f .taken ≡ roomy (p .len) 1 (length o₀)
+  pub by : FedBy f ts ss fs o (cond (roomy (p .len) 1 (length o₀)) (finished (startOf p ts₀ ss₀ fs₀)) (startOf p ts₀ ss₀ fs₀)) o₀

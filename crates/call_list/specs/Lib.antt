@@ -1,0 +1,4 @@
+pub mod Answer
+pub mod Feed
+pub mod Pieces
+pub mod Whole

@@ -1,0 +1,71 @@
+-- The whole input: its lines, and the answers to them. Definitions only.
+use Prim.Native.Nat.{ℕ}
+use mathlib.Core.Path.{_≡_}
+use mathlib.Core.Bool.{true, cond}
+use mathlib.Core.List.{List, [], _∷_, _++_}
+use lib.Dec.{eqb}
+use lib.ListN.{take, replicate}
+use Rattle.loss_controller.specs.Controller.{initial}
+use Rattle.call_line.specs.Line.{lineOf}
+use Rattle.call_list.specs.Answer.{Machine, Answered, places, queueOf, afterOf, readingOf, rowOf}
+use Rattle.call_list.specs.declared.State.{State}
+use Rattle.call_list.specs.declared.Fed.{Fed}
+use Rattle.call_list.specs.Feed.{fresh, Feeds, Finishes}
+
+-- "A last line may lack its newline; empty input prints nothing": what follows the last newline is a line unless it is empty
+unfoldable pub lastLine : List ℕ → List (List ℕ)
+lastLine [] = []
+lastLine (b ∷ l) = (b ∷ l) ∷ []
+
+-- the lines of the input s, where l is the line so far
+unfoldable pub linesFrom : List ℕ → List ℕ → List (List ℕ)
+linesFrom l [] = lastLine l
+linesFrom l (b ∷ s) = cond (eqb b 10) (l ∷ linesFrom [] s) (linesFrom (l ++ (b ∷ [])) s)
+
+abbrev pub linesOf : List ℕ → List (List ℕ)
+linesOf input = linesFrom [] input
+
+abbrev pub answeredLine : Machine → List ℕ → Answered
+answeredLine m l = afterOf m (lineOf l)
+
+-- "all but the refusal are read from the controller after the line, refused or not"
+abbrev pub row : Answered → List ℕ
+row a = rowOf (a .refusal) (readingOf (a .machine .controller))
+
+-- the answers to lines, one after another
+unfoldable pub answersTo : Machine → List (List ℕ) → List (List ℕ)
+answersTo m [] = []
+answersTo m (l ∷ ls) = row (answeredLine m l) ∷ answersTo (answeredLine m l .machine) ls
+
+unfoldable pub joined : List (List ℕ) → List ℕ
+joined [] = []
+joined (c ∷ cs) = c ++ joined cs
+
+-- a column of the queue at the start
+abbrev pub none : List ℕ
+none = replicate places 0
+
+-- a fresh controller and an empty queue
+abbrev pub freshMachine : Machine
+freshMachine = record { controller = initial; queue = queueOf 0 none none none }
+
+-- what the program writes, whole
+unfoldable pub answers : List ℕ → List ℕ
+answers input = joined (answersTo freshMachine (linesOf input))
+
+-- ---- the program: chunks fed one after another, and a finish
+
+-- from the state p and the queue's columns, fed the chunks by calls of `feed` and `finish` that are taken, whatever their buffers hold, the
+-- program writes w
+pub data Writes : State → List ℕ → List ℕ → List ℕ → List (List ℕ) → List ℕ → Type 0 where
+  last :
+      {p : State} {ts ss fs : List ℕ} (f : Fed) (ts' ss' fs' out out₀ : List ℕ) → Finishes f ts' ss' fs' out p ts ss fs out₀ → f .taken ≡ true
+      → Writes p ts ss fs [] (take (f .written) out)
+  more :
+      {p : State} {ts ss fs w : List ℕ} {cs : List (List ℕ)} (f : Fed) (ts' ss' fs' c out out₀ : List ℕ)
+      → Feeds f ts' ss' fs' out p ts ss fs c out₀ → f .taken ≡ true → Writes (f .state) ts' ss' fs' cs w
+      → Writes p ts ss fs (c ∷ cs) (take (f .written) out ++ w)
+
+-- from its start
+abbrev pub Program : List (List ℕ) → List ℕ → Type 0
+Program chunks w = Writes fresh none none none chunks w

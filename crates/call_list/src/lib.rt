@@ -1,0 +1,633 @@
+// Call lists: each line of the input is answered by a line of 46 columns (document 01, "Call
+// lists"). The queue is three columns that the caller lends.
+ghost use mathlib.Core.Path.{_≡_};
+ghost use mathlib.Core.Bool.{true, false};
+ghost use Prim.Native.Nat.{_+_, _-_, _*_, _≤_};
+ghost use mathlib.Core.List.{_++_};
+ghost use lib.ListN.{length, drop};
+ghost use Rattle.call_line.specs.Column.{column};
+ghost use Rattle.call_line.specs.Line.{lineOf};
+ghost use Rattle.call_list.specs.Answer as Answers;
+ghost use Rattle.call_list.specs.Feed as Feeding;
+ghost use Rattle.call_list.specs.Pieces as Pieces;
+use bandwidth::Bitrate;
+use bandwidth::OptionBitrate;
+use call_line::Call;
+use call_line::Line;
+use loss_controller::ControllerAnswer;
+use loss_controller::LossController;
+use loss_controller::OptionInstant;
+use packets::PacketSize;
+
+// The queue's places
+pub const PLACES: usize = packets::MOST_PACKETS_IN_REPORT;
+
+// A line's bytes that are kept: one more than a line in shape has.
+pub const KEPT: usize = call_line::LINE_WIDTH + 1;
+
+// An answer's columns and its newline; and those after the refusal
+pub const ROW: usize = 47;
+
+const TEXT: usize = ROW - 2;
+
+// The number of the refusal where the queue is full
+const FULL: u8 = 12;
+
+// What an answer reads of the controller
+pub struct Reading {
+    pub state: u8,
+    pub published: u8,
+    pub rate: u64,
+    pub inherent_loss: u64,
+}
+
+// The program between two lines, but for the queue's columns. The reading is the controller's, kept
+// so that a line that leaves the controller alone does not touch it: it is large.
+pub struct Session {
+    pub controller: LossController,
+    pub reading: Reading,
+    pub queued: usize,
+}
+
+// The five numbers of an answer
+pub struct Answer {
+    pub refusal: u8,
+    pub reading: Reading,
+}
+
+pub struct LineAnswer {
+    pub session: Session,
+    pub answer: Answer,
+}
+
+// ---- the reading
+
+fn read(controller: LossController) -> Reading
+    ensures { λ r. ⌜ r ≡ Answers.readingOf controller ⌝ }
+{
+    let result = controller.loss_based_result();
+    let state = result.state;
+    let rate = result.bandwidth_estimate;
+    Reading {
+        state: state.number(),
+        published: published(rate),
+        rate: rate_bits(rate),
+        inherent_loss: float::to_bits(controller.inherent_loss()),
+    }
+}
+
+fn published(rate: OptionBitrate) -> u8
+    ensures { λ r. ⌜ r ≡ Answers.published rate ⌝ }
+{
+    match rate {
+        OptionBitrate::Some(_) => 1,
+        OptionBitrate::None => 0,
+    }
+}
+
+fn rate_bits(rate: OptionBitrate) -> u64
+    ensures { λ r. ⌜ r ≡ Answers.rateBits rate ⌝ }
+{
+    match rate {
+        OptionBitrate::Some(rate) => float::to_bits(rate.as_f64()),
+        OptionBitrate::None => 0,
+    }
+}
+
+// ---- the queue
+
+// What a line leaves without the controller. The refusal is that of a line that does not call it.
+struct Quiet {
+    calls: bool,
+    refusal: u8,
+    queued: usize,
+}
+
+fn quiet_line(
+    queued: usize,
+    times: &mut [u64; PLACES],
+    sizes: &mut [PacketSize; PLACES],
+    flags: &mut [u8; PLACES],
+    line: Line,
+) -> Quiet
+    ensures { λ r. ⌜ Pieces.QuietBy r (now (times .exit)) (now (sizes .exit)) (now (flags .exit)) (Answers.calls line) (Answers.lineQueued (Answers.queueOf queued (now (times .entry)) (now (sizes .entry)) (now (flags .entry))) line) ⌝ }
+{
+    match line {
+        Line::Taken(call) => quiet_call(queued, times, sizes, flags, call),
+        Line::Refused(refusal) => left(refusal, queued),
+        Line::ReportRefused(refusal) => left(refusal, 0),
+    }
+}
+
+fn quiet_call(
+    queued: usize,
+    times: &mut [u64; PLACES],
+    sizes: &mut [PacketSize; PLACES],
+    flags: &mut [u8; PLACES],
+    call: Call,
+) -> Quiet
+    ensures { λ r. ⌜ Pieces.QuietBy r (now (times .exit)) (now (sizes .exit)) (now (flags .exit)) (Answers.callCalls call) (Answers.callQueued (Answers.queueOf queued (now (times .entry)) (now (sizes .entry)) (now (flags .entry))) call) ⌝ }
+{
+    match call {
+        Call::Packet { time, lost, size } => {
+            queue_packet(queued, times, sizes, flags, time, lost, size)
+        }
+        Call::Read => left(0, queued),
+        Call::Report(_) => calling(0),
+        Call::Estimate(_) => calling(queued),
+        Call::Acknowledged(_) => calling(queued),
+        Call::AlrOn(_) => calling(queued),
+        Call::AlrOff => calling(queued),
+        Call::CapacityIs(_) => calling(queued),
+        Call::CapacityNone => calling(queued),
+    }
+}
+
+fn left(refusal: u8, queued: usize) -> Quiet
+    ensures { λ r. ⌜ r ≡ record { calls = false; refusal = refusal; queued = queued } ⌝ }
+{
+    Quiet {
+        calls: false,
+        refusal,
+        queued,
+    }
+}
+
+fn calling(queued: usize) -> Quiet
+    ensures { λ r. ⌜ r ≡ record { calls = true; refusal = 0; queued = queued } ⌝ }
+{
+    Quiet {
+        calls: true,
+        refusal: 0,
+        queued,
+    }
+}
+
+fn queue_packet(
+    queued: usize,
+    times: &mut [u64; PLACES],
+    sizes: &mut [PacketSize; PLACES],
+    flags: &mut [u8; PLACES],
+    time: u64,
+    lost: u8,
+    size: PacketSize,
+) -> Quiet
+    ensures { λ r. ⌜ Pieces.QuietBy r (now (times .exit)) (now (sizes .exit)) (now (flags .exit)) false (Answers.packetQueued (Answers.queueOf queued (now (times .entry)) (now (sizes .entry)) (now (flags .entry))) time lost size) ⌝ }
+{
+    if queued >= PLACES {
+        return left(FULL, queued);
+    }
+    times[queued] = time;
+    sizes[queued] = size;
+    flags[queued] = lost;
+    left(0, queued + 1)
+}
+
+// ---- the controller
+
+fn rate(bits: u64) -> Bitrate
+    ensures { λ r. ⌜ r ≡ Answers.rateOf bits ⌝ }
+{
+    Bitrate::from_f64(float::from_bits(bits))
+}
+
+fn unchanged(controller: LossController) -> ControllerAnswer
+    ensures { λ r. ⌜ r ≡ record { controller = controller; refusal = 0 } ⌝ }
+{
+    ControllerAnswer {
+        controller,
+        refusal: 0,
+    }
+}
+
+// The first packets of the queue, all of it where it counts more.
+fn report(
+    controller: LossController,
+    queued: usize,
+    times: &[u64],
+    sizes: &[PacketSize],
+    flags: &[u8],
+    delay: Bitrate,
+) -> ControllerAnswer
+    requires { ⌜ (length (now times) ≡ Answers.places) × (length (now sizes) ≡ Answers.places) × (length (now flags) ≡ Answers.places) ⌝ }
+    ensures { λ r. ⌜ r ≡ Answers.reportOf controller (Answers.queueOf queued (now (times .entry)) (now (sizes .entry)) (now (flags .entry))) delay ⌝ }
+{
+    if queued > PLACES {
+        return controller.update_bandwidth_estimate(times, sizes, flags, delay);
+    }
+    controller.update_bandwidth_estimate(
+        &times[..queued],
+        &sizes[..queued],
+        &flags[..queued],
+        delay,
+    )
+}
+
+fn control_call(
+    controller: LossController,
+    queued: usize,
+    times: &[u64; PLACES],
+    sizes: &[PacketSize; PLACES],
+    flags: &[u8; PLACES],
+    call: Call,
+) -> ControllerAnswer
+    ensures { λ r. ⌜ r ≡ Answers.callControlled controller (Answers.queueOf queued (now (times .entry)) (now (sizes .entry)) (now (flags .entry))) call ⌝ }
+{
+    match call {
+        Call::Estimate(bits) => controller.set_bandwidth_estimate(rate(bits)),
+        Call::Acknowledged(bits) => controller.set_acknowledged_bitrate(rate(bits)),
+        Call::AlrOn(start) => controller.set_alr_start_time(OptionInstant::Some(start)),
+        Call::AlrOff => controller.set_alr_start_time(OptionInstant::None),
+        Call::CapacityIs(bits) => {
+            let capacity = OptionBitrate::Some(rate(bits));
+            controller.set_link_capacity_estimate(capacity)
+        }
+        Call::CapacityNone => controller.set_link_capacity_estimate(OptionBitrate::None),
+        Call::Report(bits) => report(controller, queued, times, sizes, flags, rate(bits)),
+        Call::Packet {
+            time: _,
+            lost: _,
+            size: _,
+        } => unchanged(controller),
+        Call::Read => unchanged(controller),
+    }
+}
+
+fn control(
+    controller: LossController,
+    queued: usize,
+    times: &[u64; PLACES],
+    sizes: &[PacketSize; PLACES],
+    flags: &[u8; PLACES],
+    line: Line,
+) -> ControllerAnswer
+    ensures { λ r. ⌜ r ≡ Answers.lineControlled controller (Answers.queueOf queued (now (times .entry)) (now (sizes .entry)) (now (flags .entry))) line ⌝ }
+{
+    match line {
+        Line::Taken(call) => control_call(controller, queued, times, sizes, flags, call),
+        Line::Refused(_) => unchanged(controller),
+        Line::ReportRefused(_) => unchanged(controller),
+    }
+}
+
+// A line that calls the controller, and leaves `left` packets in the queue.
+fn called(
+    session: Session,
+    left: usize,
+    times: &[u64; PLACES],
+    sizes: &[PacketSize; PLACES],
+    flags: &[u8; PLACES],
+    line: Line,
+) -> LineAnswer
+    ensures { λ r. ⌜ r ≡ Pieces.calledBy (Answers.lineControlled (session .controller) (Answers.queueOf (session .queued) (now (times .entry)) (now (sizes .entry)) (now (flags .entry))) line) left ⌝ }
+{
+    let before = session.controller;
+    let queued = session.queued;
+    let answer = control(before, queued, times, sizes, flags, line);
+    let controller = answer.controller;
+    let reading = read(controller);
+    LineAnswer {
+        session: Session {
+            controller,
+            reading,
+            queued: left,
+        },
+        answer: Answer {
+            refusal: answer.refusal,
+            reading,
+        },
+    }
+}
+
+// ---- one line
+
+fn turn(
+    session: Session,
+    times: &mut [u64; PLACES],
+    sizes: &mut [PacketSize; PLACES],
+    flags: &mut [u8; PLACES],
+    line: Line,
+) -> LineAnswer
+    ensures { λ r. ⌜ Answers.After r (now (times .exit)) (now (sizes .exit)) (now (flags .exit)) (session .reading) line (Answers.afterOf (Answers.machineOf session (now (times .entry)) (now (sizes .entry)) (now (flags .entry))) line) ⌝ }
+{
+    let queued = session.queued;
+    let quiet = quiet_line(queued, times, sizes, flags, line);
+    let left = quiet.queued;
+    if quiet.calls {
+        return called(session, left, times, sizes, flags, line);
+    }
+    let controller = session.controller;
+    let reading = session.reading;
+    LineAnswer {
+        session: Session {
+            controller,
+            reading,
+            queued: left,
+        },
+        answer: Answer {
+            refusal: quiet.refusal,
+            reading,
+        },
+    }
+}
+
+// The answer to a line, which comes without its newline, and what it leaves.
+pub fn answer_line(
+    session: Session,
+    times: &mut [u64; PLACES],
+    sizes: &mut [PacketSize; PLACES],
+    flags: &mut [u8; PLACES],
+    line: &[u8],
+) -> LineAnswer
+    ensures { λ r. ⌜ Answers.After r (now (times .exit)) (now (sizes .exit)) (now (flags .exit)) (session .reading) (lineOf (now (line .entry))) (Answers.afterOf (Answers.machineOf session (now (times .entry)) (now (sizes .entry)) (now (flags .entry))) (lineOf (now (line .entry)))) ⌝ }
+{
+    let said = call_line::read_line(line);
+    turn(session, times, sizes, flags, said)
+}
+
+// ---- the answer line
+
+// A number in the columns of out from `from` up to `to`.
+fn put_column(out: &mut [u8], from: usize, to: usize, n: u64)
+    requires { ⌜ (from ≤ to) × (to ≤ length (now out)) ⌝ }
+    ensures { λ _. ⌜ now (out .exit) ≡ Pieces.laid from (column (to - from) n) (now (out .entry)) ⌝ }
+{
+    call_line::write_number(&mut out[from..to], n);
+}
+
+// The columns after the refusal, and the newline.
+fn text(reading: Reading) -> [u8; TEXT]
+    ensures { λ r. ⌜ r ≡ Answers.textOf reading ⌝ }
+{
+    let mut text = [b'\n'; TEXT];
+    put_column(&mut text, 0, 2, reading.state as u64);
+    put_column(&mut text, 2, 4, reading.published as u64);
+    put_column(&mut text, 4, 24, reading.rate);
+    put_column(&mut text, 24, 44, reading.inherent_loss);
+    text
+}
+
+// An answer, in out from w on.
+fn put_row(refusal: u8, text: [u8; TEXT], out: &mut [u8], w: usize)
+    requires { ⌜ w + Feeding.rowWidth ≤ length (now out) ⌝ }
+    ensures { λ _. ⌜ now (out .exit) ≡ Pieces.laid w (column 2 refusal ++ text) (now (out .entry)) ⌝ }
+{
+    put_column(out, w, w + 2, refusal as u64);
+    let mut k = 0;
+    while k < TEXT {
+        out[w + 2 + k] = text[k];
+        k += 1;
+    }
+}
+
+// ---- the next line of a chunk
+
+enum Said {
+    Whole(Line),
+    Nothing,
+}
+
+// The line so far, how much of the chunk is read, and the line that ended there.
+struct Next {
+    line: [u8; KEPT],
+    len: usize,
+    read: usize,
+    said: Said,
+}
+
+fn taken_line(line: Line) -> Said
+    ensures { λ r. ⌜ r ≡ Pieces.takenLine line ⌝ }
+{
+    match line {
+        Line::Taken(call) => Said::Whole(Line::Taken(call)),
+        Line::Refused(_) => Said::Nothing,
+        Line::ReportRefused(_) => Said::Nothing,
+    }
+}
+
+// A line that stands whole in the chunk from `from` on and is taken: it has no newline before the
+// one after its last column, so that the others need not be looked at.
+fn line_ahead(len: usize, chunk: &[u8], from: usize) -> Said
+    requires { ⌜ from ≤ length (now chunk) ⌝ }
+    ensures { λ r. ⌜ r ≡ Pieces.aheadOf len (drop from (now (chunk .entry))) ⌝ }
+{
+    if len != 0 {
+        return Said::Nothing;
+    }
+    if chunk.len() - from <= call_line::LINE_WIDTH {
+        return Said::Nothing;
+    }
+    let end = from + call_line::LINE_WIDTH;
+    if chunk[end] != b'\n' {
+        return Said::Nothing;
+    }
+    let line = call_line::read_line(&chunk[from..end]);
+    taken_line(line)
+}
+
+// Byte by byte, up to the newline or the end of the chunk.
+fn read_on(line: [u8; KEPT], len: usize, chunk: &[u8], from: usize) -> Next
+    requires { ⌜ (len ≤ Feeding.kept) × (from ≤ length (now chunk)) ⌝ }
+    ensures { λ r. ⌜ r ≡ Pieces.nextOf line len from (drop from (now (chunk .entry))) ⌝ }
+{
+    let mut line = line;
+    let mut len = len;
+    let mut i = from;
+    while i < chunk.len() {
+        let b = chunk[i];
+        i += 1;
+        if b == b'\n' {
+            let whole = call_line::read_line(&line[..len]);
+            return Next {
+                line: [0u8; KEPT],
+                len: 0,
+                read: i,
+                said: Said::Whole(whole),
+            };
+        } else if len < KEPT {
+            line[len] = b;
+            len += 1;
+        }
+    }
+    Next {
+        line,
+        len,
+        read: i,
+        said: Said::Nothing,
+    }
+}
+
+fn next_line(line: [u8; KEPT], len: usize, chunk: &[u8], from: usize) -> Next
+    requires { ⌜ (len ≤ Feeding.kept) × (from ≤ length (now chunk)) ⌝ }
+    ensures { λ r. ⌜ r ≡ Pieces.nextOf line len from (drop from (now (chunk .entry))) ⌝ }
+{
+    let ahead = line_ahead(len, chunk, from);
+    match ahead {
+        Said::Whole(whole) => Next {
+            line: [0u8; KEPT],
+            len: 0,
+            read: from + call_line::LINE_WIDTH + 1,
+            said: Said::Whole(whole),
+        },
+        Said::Nothing => read_on(line, len, chunk, from),
+    }
+}
+
+// ---- chunks
+
+// What is kept from chunk to chunk: the line so far, of which no more is looked at than `KEPT`
+// bytes, and the session.
+pub struct State {
+    pub line: [u8; KEPT],
+    pub len: usize,
+    pub session: Session,
+}
+
+pub struct Fed {
+    pub taken: bool,
+    pub state: State,
+    pub written: usize,
+}
+
+// A fresh controller and an empty queue, before the first line.
+pub fn start() -> State
+    ensures { λ r. ⌜ r ≡ Feeding.fresh ⌝ }
+{
+    let controller = LossController::new();
+    let reading = read(controller);
+    State {
+        line: [0u8; KEPT],
+        len: 0,
+        session: Session {
+            controller,
+            reading,
+            queued: 0,
+        },
+    }
+}
+
+fn not_taken(state: State) -> Fed
+    ensures { λ r. ⌜ r ≡ record { taken = false; state = state; written = 0 } ⌝ }
+{
+    Fed {
+        taken: false,
+        state,
+        written: 0,
+    }
+}
+
+fn feed_all(
+    state: State,
+    times: &mut [u64; PLACES],
+    sizes: &mut [PacketSize; PLACES],
+    flags: &mut [u8; PLACES],
+    chunk: &[u8],
+    out: &mut [u8],
+) -> Fed
+    requires { ⌜ (state .len ≤ Feeding.kept) × (Feeding.rowWidth * length (now chunk) ≤ length (now out)) ⌝ }
+    ensures { λ r. ⌜ (r .taken ≡ true) × Feeding.FedBy r (now (times .exit)) (now (sizes .exit)) (now (flags .exit)) (now (out .exit)) (Feeding.runs (Feeding.startOf state (now (times .entry)) (now (sizes .entry)) (now (flags .entry))) (now (chunk .entry))) (now (out .entry)) ⌝ }
+{
+    let mut line = state.line;
+    let mut len = state.len;
+    let mut session = state.session;
+    let reading = session.reading;
+    let mut row = text(reading);
+    let mut w = 0;
+    let mut i = 0;
+    while i < chunk.len() {
+        let next = next_line(line, len, chunk, i);
+        line = next.line;
+        len = next.len;
+        i = next.read;
+        let said = next.said;
+        match said {
+            Said::Whole(whole) => {
+                let quiet = quiet_line(session.queued, times, sizes, flags, whole);
+                if quiet.calls {
+                    let done = called(session, quiet.queued, times, sizes, flags, whole);
+                    session = done.session;
+                    let answer = done.answer;
+                    let reading = answer.reading;
+                    row = text(reading);
+                    put_row(answer.refusal, row, out, w);
+                    w += ROW;
+                } else {
+                    session.queued = quiet.queued;
+                    put_row(quiet.refusal, row, out, w);
+                    w += ROW;
+                }
+            }
+            Said::Nothing => {}
+        }
+    }
+    Fed {
+        taken: true,
+        state: State { line, len, session },
+        written: w,
+    }
+}
+
+// A chunk of the input, of any length, is taken whole: the answers to the lines that end in it stand
+// at the start of out. It is not taken, and nothing changes, where out has fewer than `ROW` bytes for
+// each byte of the chunk.
+pub fn feed(
+    state: State,
+    times: &mut [u64; PLACES],
+    sizes: &mut [PacketSize; PLACES],
+    flags: &mut [u8; PLACES],
+    chunk: &[u8],
+    out: &mut [u8],
+) -> Fed
+    ensures { λ r. ⌜ Feeding.Feeds r (now (times .exit)) (now (sizes .exit)) (now (flags .exit)) (now (out .exit)) state (now (times .entry)) (now (sizes .entry)) (now (flags .entry)) (now (chunk .entry)) (now (out .entry)) ⌝ }
+{
+    let len = state.len;
+    if len > KEPT {
+        return not_taken(state);
+    }
+    if out.len() / ROW < chunk.len() {
+        return not_taken(state);
+    }
+    feed_all(state, times, sizes, flags, chunk, out)
+}
+
+// The end of the input: a last line that lacks its newline is answered.
+pub fn finish(
+    state: State,
+    times: &mut [u64; PLACES],
+    sizes: &mut [PacketSize; PLACES],
+    flags: &mut [u8; PLACES],
+    out: &mut [u8],
+) -> Fed
+    ensures { λ r. ⌜ Feeding.Finishes r (now (times .exit)) (now (sizes .exit)) (now (flags .exit)) (now (out .exit)) state (now (times .entry)) (now (sizes .entry)) (now (flags .entry)) (now (out .entry)) ⌝ }
+{
+    let line = state.line;
+    let len = state.len;
+    if len > KEPT {
+        return not_taken(state);
+    }
+    if out.len() < ROW {
+        return not_taken(state);
+    }
+    if len == 0 {
+        return Fed {
+            taken: true,
+            state,
+            written: 0,
+        };
+    }
+    let session = state.session;
+    let done = answer_line(session, times, sizes, flags, &line[..len]);
+    let answer = done.answer;
+    let reading = answer.reading;
+    put_row(answer.refusal, text(reading), out, 0);
+    let next = done.session;
+    Fed {
+        taken: true,
+        state: State {
+            line: [0u8; KEPT],
+            len: 0,
+            session: next,
+        },
+        written: ROW,
+    }
+}

@@ -1,0 +1,37 @@
+-- Demand 3 and the theorem of the refusals hold of the thin forms as of the report over three columns. Assumes nothing.
+use Prim.Native.Nat.{ℕ}
+use mathlib.Core.Path.{_≡_, refl, sym, subst}
+use mathlib.Core.List.{List, [], _∷_, foldl-append}
+use Rattle.packets.specs.declared.PacketResult.{PacketResult}
+use Rattle.loss_controller.specs.Controller.{initial}
+use Rattle.loss_controller.specs.Report.{updateBandwidthEstimate}
+use Rattle.loss_controller.specs.declared.LossController.{LossController}
+use Rattle.history.specs.Calls.{Call, report}
+use Rattle.history.specs.History.{after}
+use Rattle.history.specs.Run.{rateOf, step, next, left, told}
+use Rattle.history.specs.Demand.{Demand}
+use Rattle.history.proofs.Demand.{demand-3}
+use Rattle.history.proofs.Refusals.{refusals}
+use Rattle.lent.specs.Records.{times, sizes, flags, updateRecords}
+use Rattle.lent.specs.Covered.{then, Covered}
+
+-- any call's step
+step-covered : (calls : List Call) (call : Call) → Covered calls call (step (left calls) call)
+step-covered calls call =
+    let one-more : step (left calls) call .controller ≡ left (then calls call) = sym (foldl-append next initial calls (call ∷ [])) in
+    record {
+      steps = refl;
+      refused = refusals calls .each call;
+      leaves = one-more;
+      demanded = subst (λ (c : LossController). Demand c (after (told (then calls call)))) (sym one-more) (demand-3 (then calls call));
+    }
+
+-- `update_lent`, by its contract
+pub lent-covered : (calls : List Call) (times sizes flags : List ℕ) (delay : ℕ) → Covered calls (report times sizes flags delay) (updateBandwidthEstimate (left calls) times sizes flags (rateOf delay))
+unfolding step
+lent-covered calls times sizes flags delay = step-covered calls (report times sizes flags delay)
+
+-- `update_records` and `update_records_lent`, by theirs
+pub records-covered : (calls : List Call) (records : List PacketResult) (delay : ℕ)
+    → Covered calls (report (times records) (sizes records) (flags records) delay) (updateRecords (left calls) records (rateOf delay))
+records-covered calls records delay = lent-covered calls (times records) (sizes records) (flags records) delay

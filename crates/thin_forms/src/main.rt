@@ -1,0 +1,201 @@
+// The thin forms of the report beside the call by value, on one controller, report after report. A
+// line has the call's refusal, and whether each form answered the same and left the same behind.
+ghost use mathlib.Core.Path.{_≡_};
+ghost use Rattle.loss_controller.specs.Report.{updateBandwidthEstimate};
+ghost use Rattle.lent.specs.Records.{updateRecords};
+use bandwidth::Bitrate;
+use libc::STDOUT_FILENO;
+use loss_controller::ControllerAnswer;
+use loss_controller::LossController;
+use packets::PacketResult;
+use packets::PacketSize;
+
+// What is compared of an answer, floats by their bits.
+struct Seen {
+    refusal: u8,
+    count: u64,
+    packets: u64,
+    bytes: u64,
+    lost_bytes: u64,
+    estimate: u64,
+    inherent_loss: u64,
+    ratio: u64,
+    delay: u64,
+}
+
+fn main() {
+    let new = LossController::new();
+    let set = new.set_bandwidth_estimate(Bitrate { bps: 1.0e6 });
+    let mut controller = set.controller;
+    controller = sent_at(controller, 0);
+    controller = sent_at(controller, 300_000_000);
+    controller = sent_at(controller, 600_000_000);
+    // 3, 8, 2 and 4
+    controller = sent_at(controller, 4_000_000_000_000_000_001);
+    controller = flagged(controller, 2);
+    controller = delayed(controller, -1.0);
+    controller = unequal(controller);
+    controller = delayed(controller, float::infinity());
+    controller = sent_at(controller, 900_000_000);
+    controller = sent_at(controller, 1_000_000_000);
+    print_last(controller);
+}
+
+fn packet(local_send_time: u64, size: PacketSize, lost: u8) -> PacketResult {
+    PacketResult {
+        local_send_time,
+        size,
+        lost,
+    }
+}
+
+fn sent_at(controller: LossController, time: u64) -> LossController {
+    let one = packet(time, 1_200, 0);
+    let two = packet(5, 800, 1);
+    let three = packet(time, 65_535, 0);
+    reported(controller, one, two, three, 2.0e6)
+}
+
+fn flagged(controller: LossController, flag: u8) -> LossController {
+    let one = packet(700_000_000, 1_200, 1);
+    let two = packet(700_000_000, 800, flag);
+    let three = packet(700_000_000, 400, 0);
+    reported(controller, one, two, three, 2.0e6)
+}
+
+fn delayed(controller: LossController, delay: f64) -> LossController {
+    let one = packet(700_000_000, 1_200, 1);
+    let two = packet(700_000_000, 800, 0);
+    let three = packet(700_000_000, 400, 1);
+    reported(controller, one, two, three, delay)
+}
+
+fn reported(
+    controller: LossController,
+    one: PacketResult,
+    two: PacketResult,
+    three: PacketResult,
+    bps: f64,
+) -> LossController {
+    let times: [u64; 3] = [
+        one.local_send_time,
+        two.local_send_time,
+        three.local_send_time,
+    ];
+    let sizes: [PacketSize; 3] = [one.size, two.size, three.size];
+    let flags: [u8; 3] = [one.lost, two.lost, three.lost];
+    let delay = Bitrate { bps };
+    let answer = controller.update_bandwidth_estimate(&times, &sizes, &flags, delay);
+    let lent = by_loan(controller, &times, &sizes, &flags, delay);
+    let records = of_records(controller, [one, two, three], delay);
+    print_refusal(answer.refusal);
+    print_same(b", lent ", answer, lent);
+    print_same(b", records ", answer, records);
+    io::write_all(STDOUT_FILENO, b"\n");
+    answer.controller
+}
+
+// Columns of unequal length, which records do not have.
+fn unequal(controller: LossController) -> LossController {
+    let times: [u64; 3] = [800_000_000, 800_000_001, 800_000_002];
+    let sizes: [PacketSize; 2] = [1_200, 800];
+    let flags: [u8; 3] = [0, 1, 0];
+    let delay = Bitrate { bps: 2.0e6 };
+    let answer = controller.update_bandwidth_estimate(&times, &sizes, &flags, delay);
+    let lent = by_loan(controller, &times, &sizes, &flags, delay);
+    print_refusal(answer.refusal);
+    print_same(b", lent ", answer, lent);
+    io::write_all(STDOUT_FILENO, b"\n");
+    answer.controller
+}
+
+// The lent form, on a controller of its own.
+fn by_loan(
+    controller: LossController,
+    times: &[u64],
+    sizes: &[PacketSize],
+    flags: &[u8],
+    delay: Bitrate,
+) -> ControllerAnswer
+    ensures { λ r. ⌜ r ≡ updateBandwidthEstimate controller (now (times .entry)) (now (sizes .entry)) (now (flags .entry)) delay ⌝ }
+{
+    let mut own = controller;
+    let refusal = lent::update_lent(&mut own, times, sizes, flags, delay);
+    ControllerAnswer {
+        controller: own,
+        refusal,
+    }
+}
+
+// The forms over packet records, of which the lent one calls the other.
+fn of_records(
+    controller: LossController,
+    records: [PacketResult; 3],
+    delay: Bitrate,
+) -> ControllerAnswer
+    ensures { λ r. ⌜ r ≡ updateRecords controller records delay ⌝ }
+{
+    let mut own = controller;
+    let refusal = lent::update_records_lent(&mut own, &records, delay);
+    ControllerAnswer {
+        controller: own,
+        refusal,
+    }
+}
+
+fn read(answer: ControllerAnswer) -> Seen {
+    let controller = answer.controller;
+    let observations = controller.observations;
+    let sums = observations.partial_observation;
+    let estimator = controller.estimator;
+    let current_estimate = estimator.current_estimate;
+    let estimate = current_estimate.loss_limited_bandwidth;
+    let inputs = controller.inputs;
+    let delay = inputs.delay_based_estimate;
+    let ratio = controller.average_reported_loss_ratio();
+    Seen {
+        refusal: answer.refusal,
+        count: observations.num_observations,
+        packets: sums.num_packets,
+        bytes: sums.size,
+        lost_bytes: sums.lost_size,
+        estimate: float::to_bits(estimate.bps),
+        inherent_loss: float::to_bits(current_estimate.inherent_loss),
+        ratio: float::to_bits(ratio.value),
+        delay: float::to_bits(delay.bps),
+    }
+}
+
+fn is_same(a: Seen, b: Seen) -> bool {
+    let answers = a.refusal == b.refusal && a.count == b.count && a.ratio == b.ratio;
+    let sums = a.packets == b.packets && a.bytes == b.bytes && a.lost_bytes == b.lost_bytes;
+    let estimates = a.estimate == b.estimate && a.inherent_loss == b.inherent_loss;
+    answers && sums && estimates && a.delay == b.delay
+}
+
+fn print_refusal(refusal: u8) {
+    io::write_all(STDOUT_FILENO, b"refusal ");
+    io::print_decimal(STDOUT_FILENO, refusal as u64);
+}
+
+fn print_same(form: &[u8], answer: ControllerAnswer, other: ControllerAnswer) {
+    io::write_all(STDOUT_FILENO, form);
+    if is_same(read(answer), read(other)) {
+        io::write_all(STDOUT_FILENO, b"same");
+    } else {
+        io::write_all(STDOUT_FILENO, b"OTHER");
+    }
+}
+
+// What the reports came to, so that forms which agree in doing nothing are told.
+fn print_last(controller: LossController) {
+    let last = read(ControllerAnswer {
+        controller,
+        refusal: 0,
+    });
+    io::write_all(STDOUT_FILENO, b"observations ");
+    io::print_decimal(STDOUT_FILENO, last.count);
+    io::write_all(STDOUT_FILENO, b", running bytes ");
+    io::print_decimal(STDOUT_FILENO, last.bytes);
+    io::write_all(STDOUT_FILENO, b"\n");
+}
