@@ -1,5 +1,5 @@
 -- A line's columns by their number. Assumes nothing.
-use Prim.Native.Nat.{ℕ, zero, suc, _+_, _-_, _≤_, _<_}
+use Prim.Native.Nat.{ℕ, zero, suc, _+_, _-_, _*_, _^_, _≤_, _<_}
 use mathlib.Core.Path.{_≡_, refl, sym, ap, _∙_}
 use mathlib.Core.Bool.{Bool, true, false, cond}
 use mathlib.Core.List.{List, [], _∷_}
@@ -14,9 +14,9 @@ use lib.Seq.{getD-take, getD-drop, getD-set-same, getD-set-other, take-nil, drop
 use Rattle.call_line.specs.declared.Number.{Number}
 use Rattle.call_line.specs.declared.Number.the-variants.{Value, Wrong}
 use Rattle.call_line.specs.declared.Fields.the-variants.{Read, Unreadable}
-use Rattle.call_line.specs.Column.{asciiSpace, isDigit, AllDigits, digitsOf, leadingSpaces, columnOf, start, total, cut}
+use Rattle.call_line.specs.Column.{asciiSpace, asciiZero, isDigit, more, digitsOf, leadingSpaces, columnOf, start, total, cut}
 use Rattle.call_line.specs.Line.{widths, four, fieldsOf}
-use Rattle.call_line.proofs.Reading.{no-digit}
+use Rattle.call_line.proofs.Reading.{more-on, no-digit}
 
 -- ---- where columns start
 
@@ -27,12 +27,12 @@ start-next (w ∷ ws) zero h = simp (add-zero, zero-add)
 start-next (w ∷ ws) (suc k) h =
     rw (suc-add k 1, start-next ws k (omega arith)) (sym (add-assoc w (start ws k) (getD ws k 0)))
 
--- the columns end within the line
-pub within : (k : ℕ) → k < 4 → start widths k + getD widths k 0 ≤ total widths
-within zero h = omega arith
-within (suc zero) h = omega arith
-within (suc (suc zero)) h = omega arith
-within (suc (suc (suc zero))) h = omega arith
+-- the columns end within the line, and none has more than 20 places
+pub within : (k : ℕ) → k < 4 → (start widths k + getD widths k 0 ≤ total widths) × (getD widths k 0 ≤ 20)
+within zero h = (omega arith, omega arith)
+within (suc zero) h = (omega arith, omega arith)
+within (suc (suc zero)) h = (omega arith, omega arith)
+within (suc (suc (suc zero))) h = (omega arith, omega arith)
 within (suc (suc (suc (suc k)))) h = absurd (omega arith)
 
 -- ---- the part of a line from a place to another
@@ -56,7 +56,7 @@ spaces-fit (b ∷ s) = pick (spaces-fit s) (eqb b asciiSpace)
     pick h false = omega arith
 
 module _ (s : List ℕ) (from to : ℕ) (h : to ≤ length s) where
-  length-part : length (part from to s) ≡ to - from
+  pub length-part : length (part from to s) ≡ to - from
   length-part = simp (length-take, length-drop) (omega arith)
 
   part-at : (i : ℕ) → from ≤ i → i < to → getD (part from to s) (i - from) 0 ≡ getD s i 0
@@ -77,23 +77,13 @@ module _ (s : List ℕ) (from to : ℕ) (h : to ≤ length s) where
       ∙ ap digitsOf (drop-take n (to - from) (drop from s) ∙ ap (take (to - from - n)) (drop-drop n from s))
       ∙ ap (λ (k : ℕ). digitsOf (take k (drop (from + n) s))) w
 
-  pub all-digits :
-      ((j : ℕ) → from ≤ j → j < to → isDigit (getD s j 0) ≡ true) → AllDigits (part from to s)
-  all-digits d i l =
-      let u : i < to - from = rw length-part at l in
-      let e : getD (part from to s) i 0 ≡ getD s (from + i) 0 =
-      ap (λ (j : ℕ). getD (part from to s) j 0) (omega arith) ∙ part-at (from + i) (omega arith) (omega arith) in
-      rw e (d (from + i) (omega arith) (omega arith))
-
   -- one digit more
   pub digit-more :
-      (i : ℕ) → ((j : ℕ) → from ≤ j → j < i → isDigit (getD s j 0) ≡ true) → isDigit (getD s i 0) ≡ true
-      → (j : ℕ) → from ≤ j → j < i + 1 → isDigit (getD s j 0) ≡ true
-  digit-more i d e j l u = pick (decLt j i)
-    where
-      pick : Dec (j < i) → isDigit (getD s j 0) ≡ true
-      pick (yes p) = d j l p
-      pick (no m) = let q : j ≡ i = omega (arith, m) in rw q e
+      (i v : ℕ) → from ≤ i → i < to → isDigit (getD s i 0) ≡ true → v * 10 + (getD s i 0 - asciiZero) < 2 ^ 64
+      → more v (drop (i - from) (part from to s)) ≡ more (v * 10 + (getD s i 0 - asciiZero)) (drop (i + 1 - from) (part from to s))
+  digit-more i v l u =
+      let n : i + 1 - from ≡ i - from + 1 = omega arith in
+      rw n (rw (part-at i l u) at (more-on (part from to s) (i - from) v (rw length-part (omega arith))))
 
   pub no-digit-at : (i : ℕ) → from ≤ i → i < to → isDigit (getD s i 0) ≡ false → digitsOf (part from to s) ≡ Wrong
   no-digit-at i l u o =

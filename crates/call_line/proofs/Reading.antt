@@ -3,11 +3,11 @@ use Prim.Native.Nat.{ℕ, zero, suc, _+_, _-_, _*_, _^_, _≤_, _<_}
 use mathlib.Core.Path.{_≡_, refl}
 use mathlib.Core.Bool.{Bool, true, false, cond, _&&_, true≢false}
 use mathlib.Core.List.{List, [], _∷_}
-use native.Mathlib.Nat.{add-zero}
+use native.Mathlib.Nat.{add-zero, pow-suc, pow-le-pow-right}
 use native.Mathlib.Numerals.{add-one}
 use native.Mathlib.Omega.{arith}
-use borrow.Author.Tests.{leb-true, lt-ltb, le-ltb, eq-eqb, ne-eqb}
-use lib.Dec.{leb}
+use borrow.Author.Tests.{leb-true, lt-ltb, le-ltb, eq-eqb, ne-eqb, eqb-true}
+use lib.Dec.{eqb, leb, lit<}
 use lib.ListN.{length, getD, drop, drop-of-length-le}
 use lib.Seq.{drop-cons}
 use Rattle.call_line.specs.declared.Number.the-variants.{Value, Wrong}
@@ -36,17 +36,22 @@ unfolding digitsOf
 no-digits [] e = refl
 no-digits (b ∷ s) e = absurd (omega arith)
 
-pub zero-alone : (s : List ℕ) → getD s 0 0 ≡ asciiZero → length s ≡ 1 → digitsOf s ≡ Value 0
+pub leading-zero : (s : List ℕ) → getD s 0 0 ≡ asciiZero → 1 < length s → digitsOf s ≡ Wrong
 unfolding digitsOf afterZero
-zero-alone [] e l = absurd (omega arith)
-zero-alone (b ∷ []) e l = simp (eq-eqb _ _ e)
-zero-alone (b ∷ d ∷ s) e l = absurd (omega arith)
+leading-zero [] e l = absurd (omega arith)
+leading-zero (b ∷ []) e l = absurd (omega arith)
+leading-zero (b ∷ d ∷ s) e l = simp (eq-eqb _ _ e)
 
-pub leading-zero : (s : List ℕ) → getD s 0 0 ≡ asciiZero → (length s ≡ 0 → ⊥) → (length s ≡ 1 → ⊥) → digitsOf s ≡ Wrong
-unfolding digitsOf afterZero
-leading-zero [] e m n = absurd (m refl)
-leading-zero (b ∷ []) e m n = absurd (n refl)
-leading-zero (b ∷ d ∷ s) e m n = simp (eq-eqb _ _ e)
+-- a zero alone is no leading zero
+pub one-digit : (s : List ℕ) → length s ≡ 1 → digitsOf s ≡ more 0 s
+unfolding digitsOf afterZero isDigit more
+one-digit [] e = absurd (omega arith)
+one-digit (b ∷ []) e = pick (eqb b asciiZero) refl
+  where
+    pick : (t : Bool) → eqb b asciiZero ≡ t → cond t (Value 0) (more 0 (b ∷ [])) ≡ more 0 (b ∷ [])
+    pick true q = rw (eqb-true b asciiZero q)
+    pick false q = refl
+one-digit (b ∷ d ∷ s) e = absurd (omega arith)
 
 pub no-leading-zero : (s : List ℕ) → (length s ≡ 0 → ⊥) → (getD s 0 0 ≡ asciiZero → ⊥) → digitsOf s ≡ more 0 s
 unfolding digitsOf
@@ -65,6 +70,16 @@ digit-bounds b e = pick (leb asciiZero b) (leb b asciiNine) refl refl e
     pick true true p q r = (leb-true _ _ p, leb-true _ _ q)
     pick true false p q r = let z : true ≡ false = cc in absurd (true≢false z)
     pick false u p q r = let z : true ≡ false = cc in absurd (true≢false z)
+
+-- 19 digits fit 64 bits: those before the place i make v, and b is there
+pub digits-fit :
+    (from i v b : ℕ) → from ≤ i → i < from + 19 → v < 10 ^ (i - from) → isDigit b ≡ true
+    → (v * 10 + (b - asciiZero) < 10 ^ (i + 1 - from)) × (v * 10 + (b - asciiZero) < 2 ^ 64)
+digits-fit from i v b l u f d =
+    let n : i + 1 - from ≡ suc (i - from) = omega arith in
+    let w : v * 10 + (b - asciiZero) < 10 ^ suc (i - from) = omega (arith, digit-bounds b d, pow-suc 10 (i - from)) in
+    let m : 10 ^ suc (i - from) ≤ 10 ^ 19 = pow-le-pow-right (lit< tt) {j = 19} (omega arith) in
+    (rw n w, omega arith)
 
 module _ (s : List ℕ) (i v : ℕ) (h : i < length s) (d : isDigit (getD s i 0) ≡ true) where
   pub more-over : 2 ^ 64 ≤ v * 10 + (getD s i 0 - asciiZero) → more v (drop i s) ≡ Wrong

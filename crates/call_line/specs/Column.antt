@@ -1,7 +1,6 @@
 -- Columns: numbers "decimal, right-justified with spaces, no leading zeros", read and written. Definitions only.
-use Prim.Native.Nat.{ℕ, zero, suc, _+_, _-_, _*_, _/_, _%_, _^_, _≤_, _<_}
-use mathlib.Core.Path.{_≡_}
-use mathlib.Core.Bool.{Bool, true, cond, _&&_}
+use Prim.Native.Nat.{ℕ, zero, suc, _+_, _-_, _*_, _/_, _%_, _^_}
+use mathlib.Core.Bool.{Bool, cond, _&&_}
 use mathlib.Core.List.{List, [], _∷_, _++_}
 use lib.Dec.{eqb, leb, ltb}
 use lib.ListN.{length, getD, take, drop, replicate}
@@ -48,9 +47,6 @@ leadingSpaces (b ∷ s) = cond (eqb b asciiSpace) (suc (leadingSpaces s)) 0
 -- what a column says: spaces, and then digits to its end
 unfoldable pub columnOf : List ℕ → Number
 columnOf s = digitsOf (drop (leadingSpaces s) s)
-
-abbrev pub AllDigits : List ℕ → Type 0
-AllDigits s = (i : ℕ) → i < length s → isDigit (getD s i 0) ≡ true
 
 -- ---- writing
 

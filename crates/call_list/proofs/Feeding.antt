@@ -1,7 +1,7 @@
 -- A turn of `feed_all`. Assumes nothing.
 use Prim.Native.Nat.{ℕ, zero, suc, _+_, _-_, _*_, _/_, _≤_, _<_}
 use mathlib.Core.Path.{_≡_, refl, sym, ap, _∙_}
-use mathlib.Core.Bool.{Bool, true, false, cond}
+use mathlib.Core.Bool.{Bool, true, false, cond, true≢false}
 use mathlib.Core.List.{List, [], _∷_, _++_}
 use native.Mathlib.Nat.{zero-add}
 use native.Mathlib.Omega.{arith}
@@ -11,18 +11,18 @@ use lib.ListN.{length, take, drop, set, length-set, length-drop, drop-of-length-
 use lib.Seq.{drop-drop, length-take-le}
 use Rattle.call_line.specs.Column.{column}
 use Rattle.call_line.specs.Line.{lineOf}
+use Rattle.call_line.specs.declared.Call.{Call}
 use Rattle.call_line.specs.declared.Line.{Line}
-use Rattle.call_list.specs.declared.Reading.{Reading}
+use Rattle.call_line.specs.declared.Line.the-variants.{Taken}
 use Rattle.call_list.specs.declared.Session.{Session}
 use Rattle.call_list.specs.declared.LineAnswer.{LineAnswer}
 use Rattle.call_list.specs.declared.State.{State}
 use Rattle.call_list.specs.declared.Fed.{Fed}
 use Rattle.call_list.specs.declared.Next.{Next}
-use Rattle.call_list.specs.declared.Said.{Said}
-use Rattle.call_list.specs.declared.Said.the-variants.{Whole, Nothing}
 use Rattle.call_list.specs.Answer.{Machine, machineOf, afterOf, textOf, rowOf, After}
-use Rattle.call_list.specs.Feed.{Run, kept, rowWidth, blank, pushed, told, ended, step, runs, finished, startOf, FedBy, Feeds, Finishes, roomy}
-use Rattle.call_list.specs.Pieces.{nextOf, laid}
+use Rattle.call_list.specs.Feed.{Run, width, kept, rowWidth, blank, pushed, told, ended, step, runs, finished, startOf, FedBy, Feeds, Finishes, roomy}
+use Rattle.call_list.specs.Pieces.{nextOf, mayStand, here, At, laid}
+use Rattle.call_list.proofs.Lines.{run-on, long, whole-line}
 use Rattle.call_list.proofs.Laying.{length-row, take-laid, drop-laid, length-laid}
 
 -- ---- a run over the next bytes
@@ -30,44 +30,51 @@ use Rattle.call_list.proofs.Laying.{length-row, take-laid, drop-laid, l
 -- no line ended in them
 pub record Unended (r : Run) (i : ℕ) (s : List ℕ) (n : Next) : Type 0 where
   pub all : n .read ≡ i + length s
-  pub short : n .len ≤ kept
-  pub places : length (n .line) ≡ kept
   pub run : runs r s ≡ record { line = n .line; len = n .len; machine = r .machine; reading = r .reading; out = r .out }
 
--- the line l did
-pub record Ended (r : Run) (i : ℕ) (s : List ℕ) (n : Next) (l : Line) : Type 0 where
-  pub line : n .line ≡ blank
-  pub len : n .len ≡ 0
+-- one did
+pub record Ended (r : Run) (i : ℕ) (s : List ℕ) (n : Next) : Type 0 where
   pub more : i < n .read
   pub within : n .read ≤ i + length s
-  pub run : (k : ℕ) → n .read ≡ i + k → runs r s ≡ runs (told r l) (drop k s)
+  pub run : (k : ℕ) → n .read ≡ i + k → runs r s ≡ runs (told r (lineOf (take (n .len) (n .line)))) (drop k s)
 
 data Outcome (r : Run) (i : ℕ) (s : List ℕ) (n : Next) : Type 0 where
-  none : n .said ≡ Nothing → Unended r i s n → Outcome r i s n
-  one : (l : Line) → n .said ≡ Whole l → Ended r i s n l → Outcome r i s n
+  none : n .ended ≡ false → Unended r i s n → Outcome r i s n
+  one : n .ended ≡ true → Ended r i s n → Outcome r i s n
 
-pushed-short : (r : Run) (b : ℕ) → r .len ≤ kept → length (r .line) ≡ kept → (pushed r b .len ≤ kept) × (length (pushed r b .line) ≡ kept)
-pushed-short r b h p = pick (ltb (r .len) kept) refl
+-- what is kept of the line
+pub record Kept (line : List ℕ) (len : ℕ) : Type 0 where
+  pub short : len ≤ kept
+  pub whole : length line ≡ kept
+
+pushed-kept : (r : Run) (b : ℕ) → Kept (r .line) (r .len) → Kept (pushed r b .line) (pushed r b .len)
+pushed-kept r b h = pick (ltb (r .len) kept) refl
+  where
+    pick : (t : Bool) → ltb (r .len) kept ≡ t → Kept (cond t (set (r .line) (r .len) b) (r .line)) (cond t (r .len + 1) (r .len))
+    pick true e = let k : r .len < kept = ltb-true (r .len) kept e in record { short = omega arith; whole = simp length-set (h .whole) }
+    pick false e = h
+
+next-kept : (s : List ℕ) (r : Run) (i : ℕ) → Kept (r .line) (r .len) → Kept (nextOf (r .line) (r .len) i s .line) (nextOf (r .line) (r .len) i s .len)
+unfolding nextOf
+next-kept [] r i h = h
+next-kept (b ∷ s) r i h = pick (eqb b 10) _ (next-kept s (pushed r b) (i + 1) (pushed-kept r b h))
   where
     pick :
-        (t : Bool) → ltb (r .len) kept ≡ t
-        → (cond t (r .len + 1) (r .len) ≤ kept) × (length (cond t (set (r .line) (r .len) b) (r .line)) ≡ kept)
-    pick true e = let k : r .len < kept = ltb-true (r .len) kept e in (omega arith, simp length-set p)
-    pick false e = (h, p)
+        (t : Bool) (n : Next) → Kept (n .line) (n .len)
+        → (let m : Next = cond t (record { line = r .line; len = r .len; read = i + 1; ended = true }) n in Kept (m .line) (m .len))
+    pick true n x = h
+    pick false n x = x
 
-outcome : (s : List ℕ) (r : Run) (i : ℕ) → r .len ≤ kept → length (r .line) ≡ kept → Outcome r i s (nextOf (r .line) (r .len) i s)
+outcome : (s : List ℕ) (r : Run) (i : ℕ) → Outcome r i s (nextOf (r .line) (r .len) i s)
 unfolding nextOf runs step
-outcome [] r i h p = none refl (record { all = omega arith; short = h; places = p; run = refl })
-outcome (b ∷ s) r i h p =
-    pick (eqb b 10) refl (outcome s (pushed r b) (i + 1) (pushed-short r b h p .0) (pushed-short r b h p .1))
+outcome [] r i = none refl (record { all = omega arith; run = refl })
+outcome (b ∷ s) r i = pick (eqb b 10) refl (outcome s (pushed r b) (i + 1))
   where
     over : (m : Next) → Outcome (pushed r b) (i + 1) s m → runs r (b ∷ s) ≡ runs (pushed r b) s → Outcome r i (b ∷ s) m
-    over m (none e x) q =
-        none e (record { all = omega (arith, x .all); short = x .short; places = x .places; run = q ∙ x .run })
-    over m (one l e x) q =
-        one l e (record { line = x .line; len = x .len; more = omega (arith, x .more); within = omega (arith, x .within); run = on })
+    over m (none e x) q = none e (record { all = omega (arith, x .all); run = q ∙ x .run })
+    over m (one e x) q = one e (record { more = omega (arith, x .more); within = omega (arith, x .within); run = on })
       where
-        on : (k : ℕ) → m .read ≡ i + k → runs r (b ∷ s) ≡ runs (told r l) (drop k (b ∷ s))
+        on : (k : ℕ) → m .read ≡ i + k → runs r (b ∷ s) ≡ runs (told r (lineOf (take (m .len) (m .line)))) (drop k (b ∷ s))
         on zero z = absurd (omega (arith, x .more))
         on (suc k) z = q ∙ x .run k (omega arith)
 
@@ -78,47 +85,37 @@ outcome (b ∷ s) r i h p =
     pick :
         (t : Bool) → eqb b 10 ≡ t → Outcome (pushed r b) (i + 1) s (nextOf (pushed r b .line) (pushed r b .len) (i + 1) s)
         → Outcome r i (b ∷ s)
-        (cond t (record { line = blank; len = 0; read = i + 1; said = Whole (lineOf (take (r .len) (r .line))) })
-        (nextOf (pushed r b .line) (pushed r b .len) (i + 1) s))
-    pick true q o =
-        one (lineOf (take (r .len) (r .line))) refl
-        (record { line = refl; len = refl; more = omega arith; within = omega arith; run = first q })
-    pick false q o = over (nextOf (pushed r b .line) (pushed r b .len) (i + 1) s) o (rw q)
+        (cond t (record { line = r .line; len = r .len; read = i + 1; ended = true }) (nextOf (pushed r b .line) (pushed r b .len) (i + 1) s))
+    pick true q o = one refl (record { more = omega arith; within = omega arith; run = first q })
+    pick false q o = over (nextOf (pushed r b .line) (pushed r b .len) (i + 1) s) o (run-on r b s q)
 
-module _ (s : List ℕ) (r : Run) (i : ℕ) (h : r .len ≤ kept) (p : length (r .line) ≡ kept) (n : Next) (e : n ≡ nextOf (r .line) (r .len) i s) where
+module _ (s : List ℕ) (r : Run) (i : ℕ) (n : Next) (e : n ≡ nextOf (r .line) (r .len) i s) where
+  pub kept-on : Kept (r .line) (r .len) → Kept (n .line) (n .len)
+  kept-on h = rw e (next-kept s r i h)
+
   at : Outcome r i s n
-  at = rw e (outcome s r i h p)
+  at = rw e (outcome s r i)
 
-  pub unended : n .said ≡ Nothing → Unended r i s n
+  pub unended : n .ended ≡ false → Unended r i s n
   unended q = pick at
     where
       pick : Outcome r i s n → Unended r i s n
       pick (none z x) = x
-      pick (one l z x) = let v : _≡_ {A = ℕ} 0 1 = cc in absurd (omega arith)
+      pick (one z x) = absurd (true≢false (sym z ∙ q))
 
-  pub line-ended : (l : Line) → n .said ≡ Whole l → Ended r i s n l
-  line-ended l q = pick at
+  pub line-ended : n .ended ≡ true → Ended r i s n
+  line-ended q = pick at
     where
-      pick : Outcome r i s n → Ended r i s n l
-      pick (none z x) = let v : _≡_ {A = ℕ} 0 1 = cc in absurd (omega arith)
-      pick (one m z x) = let v : m ≡ l = cc in rw (← v) x
+      pick : Outcome r i s n → Ended r i s n
+      pick (none z x) = absurd (true≢false (sym q ∙ z))
+      pick (one z x) = x
 
--- ---- the loop
+-- ---- a chunk that is partly answered
 
--- the run at its head
-abbrev pub here : List ℕ → ℕ → Session → List ℕ → List ℕ → List ℕ → List ℕ → Run
-here line len s ts ss fs out = record { line = line; len = len; machine = machineOf s ts ss fs; reading = s .reading; out = out }
-
--- what holds there: the rest of the chunk takes it where the whole chunk takes the start
-pub record Head (chunk out₀ : List ℕ) (r₀ : Run) (ts ss fs out line : List ℕ) (len : ℕ) (s : Session) (row : List ℕ) (w i : ℕ) : Type 0 where
-  pub read : i ≤ length chunk
-  pub short : len ≤ kept
-  pub places : length line ≡ kept
-  pub out-kept : length out ≡ length out₀
-  pub room : w ≤ rowWidth * i
-  pub rest : drop w out ≡ drop w out₀
-  pub text : row ≡ textOf (s .reading)
-  pub same : runs r₀ chunk ≡ runs (here line len s ts ss fs (take w out)) (drop i chunk)
+pub stands-within : (chunk : List ℕ) (i : ℕ) → mayStand (drop i chunk) ≡ true → i + width < length chunk
+stands-within chunk i e =
+    let h : width < length chunk - i = rw (← length-drop i chunk) (long (drop i chunk) e) in
+    omega arith
 
 runs-end : (r : Run) (s : List ℕ) (i : ℕ) → length s ≤ i → runs r (drop i s) ≡ r
 unfolding runs
@@ -132,74 +129,112 @@ told-here :
 told-here line len s ts ss fs out l a ts' ss' fs' t = rw (t .answer, t .times, t .sizes, t .flags)
 
 module _
-    (chunk out₀ : List ℕ) (r₀ : Run) (ts ss fs out line : List ℕ) (len : ℕ) (s : Session) (row : List ℕ) (w i : ℕ)
-    (h : Head chunk out₀ r₀ ts ss fs out line len s row w i) (m : i < length chunk) (n : Next)
-    (e : n ≡ nextOf line len i (drop i chunk))
+    (chunk out₀ : List ℕ) (end : Run) (ts ss fs out line : List ℕ) (len : ℕ) (s : Session) (w i : ℕ)
+    (h : At chunk out₀ end ts ss fs out line len s w i) (m : i < length chunk) (big : rowWidth * length chunk ≤ length out₀)
   where
-    left : length (drop i chunk) ≡ length chunk - i
-    left = length-drop i chunk
+    abbrev now : Run
+    now = here line len s ts ss fs (take w out)
 
-    pub no-line : n .said ≡ Nothing → (i < n .read) × Head chunk out₀ r₀ ts ss fs out (n .line) (n .len) s row w (n .read)
-    no-line q =
-        let x = unended (drop i chunk) (here line len s ts ss fs (take w out)) i (h .short) (h .places) n e q in
-        let z : n .read ≡ length chunk = omega (arith, x .all, left, m) in (
-          omega (arith, z, m),
-          record {
-            read = omega (arith, z);
-            short = x .short;
-            places = x .places;
-            out-kept = h .out-kept;
-            room = omega (arith, z, m, h .room);
-            rest = h .rest;
-            text = h .text;
-            same = h .same ∙ x .run ∙ sym (runs-end _ chunk (n .read) (omega (arith, z)));
-          },
-        )
+    pub row-fits : w + rowWidth ≤ length out
+    row-fits = omega (arith, h .room, h .out-kept, m, big)
 
-    module _ (l : Line) (q : n .said ≡ Whole l) where
-      x : Ended (here line len s ts ss fs (take w out)) i (drop i chunk) n l
-      x = line-ended (drop i chunk) (here line len s ts ss fs (take w out)) i (h .short) (h .places) n e l q
+    -- the line l ends before the byte j, is answered by a, and its row is written
+    pub one-line :
+        (l : Line) (j : ℕ) → i < j → j ≤ length chunk → runs now (drop i chunk) ≡ runs (told now l) (drop j chunk)
+        → (a : LineAnswer) (ts' ss' fs' out' row : List ℕ) → After a ts' ss' fs' (s .reading) l (afterOf (machineOf s ts ss fs) l)
+        → row ≡ textOf (a .answer .reading) → out' ≡ laid w (column 2 (a .answer .refusal) ++ row) out
+        → At chunk out₀ end ts' ss' fs' out' blank 0 (a .session) (w + rowWidth) j
+    unfolding rowOf
+    one-line l j more within run a ts' ss' fs' out' row t f o =
+        let y = rowOf (a .answer .refusal) (a .answer .reading) in
+        let z : out' ≡ laid w y out = o ∙ ap (λ (u : List ℕ). laid w (column 2 (a .answer .refusal) ++ u) out) f in
+        let v : take (w + rowWidth) out' ≡ take w out ++ y = ap (take (w + rowWidth)) z ∙ take-laid w rowWidth y out (length-row _ _) row-fits in
+        record {
+          read = within;
+          short = omega arith;
+          whole = refl;
+          out-kept = ap length z ∙ length-laid w rowWidth y out (length-row _ _) row-fits ∙ h .out-kept;
+          room = omega (arith, h .room, more);
+          rest =
+              ap (drop (w + rowWidth)) z ∙ drop-laid w rowWidth y out (length-row _ _) row-fits
+              ∙ sym (drop-drop rowWidth w out) ∙ ap (drop rowWidth) (h .rest) ∙ drop-drop rowWidth w out₀;
+          same =
+              h .same ∙ run
+              ∙ ap (λ (u : Run). runs u (drop j chunk)) (told-here line len s ts ss fs (take w out) l a ts' ss' fs' t)
+              ∙ rw v;
+        }
 
-      pub line-more : i < n .read
-      line-more = x .more
+    -- the next line stands whole in the chunk
+    pub line-stands :
+        (call : Call) → mayStand (drop i chunk) ≡ true → len ≡ 0 → lineOf (take width (drop i chunk)) ≡ Taken call
+        → runs now (drop i chunk) ≡ runs (told now (Taken call)) (drop (i + width + 1) chunk)
+    line-stands call e z t =
+        let k : i + (width + 1) ≡ i + width + 1 = omega arith in
+        whole-line (drop i chunk) e now call z (h .whole) t ∙ rw (drop-drop, k)
 
-      -- the line is answered by a, and its row written
-      pub one-line :
-          (a : LineAnswer) (ts' ss' fs' out' row' : List ℕ) → rowWidth * length chunk ≤ length out₀
-          → After a ts' ss' fs' (s .reading) l (afterOf (machineOf s ts ss fs) l)
-          → row' ≡ textOf (a .answer .reading)
-          → out' ≡ laid w (column 2 (a .answer .refusal) ++ row') out
-          → Head chunk out₀ r₀ ts' ss' fs' out' (n .line) (n .len) (a .session) row' (w + rowWidth) (n .read)
-      unfolding rowOf
-      one-line a ts' ss' fs' out' row' big t f o =
-          let y = rowOf (a .answer .refusal) (a .answer .reading) in
-          let g : w + rowWidth ≤ length out = omega (arith, h .room, h .out-kept, m, big) in
-          let z : out' ≡ laid w y out = o ∙ ap (λ (u : List ℕ). laid w (column 2 (a .answer .refusal) ++ u) out) f in
-          let k : n .read ≡ i + (n .read - i) = omega (arith, x .more) in
-          let v : take (w + rowWidth) out' ≡ take w out ++ y = ap (take (w + rowWidth)) z ∙ take-laid w rowWidth y out (length-row _ _) g in
-          record {
-            read = omega (arith, x .within, left, m);
-            short = rw (x .len) (omega arith);
-            places = rw (x .line);
-            out-kept = ap length z ∙ length-laid w rowWidth y out (length-row _ _) g ∙ h .out-kept;
-            room = omega (arith, h .room, x .more);
-            rest =
-                ap (drop (w + rowWidth)) z ∙ drop-laid w rowWidth y out (length-row _ _) g
-                ∙ sym (drop-drop rowWidth w out) ∙ ap (drop rowWidth) (h .rest) ∙ drop-drop rowWidth w out₀;
-            text =
-                f ∙ ap textOf (ap (λ (u : LineAnswer). u .answer .reading) (t .answer) ∙ sym (ap (λ (u : LineAnswer). u .session .reading) (t .answer)));
-            same =
-                h .same ∙ x .run (n .read - i) k
-                ∙ ap (λ (u : Run). runs u (drop (n .read - i) (drop i chunk))) (told-here line len s ts ss fs (take w out) l a ts' ss' fs' t)
-                ∙ rw (x .line, x .len, v, drop-drop, ← k);
-          }
+    -- the next line, read on from what is kept of it
+    module _ (n : Next) (e : n ≡ nextOf line len i (drop i chunk)) where
+      left : length (drop i chunk) ≡ length chunk - i
+      left = length-drop i chunk
+
+      pub kept-line : Kept (n .line) (n .len)
+      kept-line = kept-on (drop i chunk) now i n e (record { short = h .short; whole = h .whole })
+
+      pub no-line : n .ended ≡ false → (i < n .read) × At chunk out₀ end ts ss fs out (n .line) (n .len) s w (n .read)
+      no-line q =
+          let x = unended (drop i chunk) now i n e q in
+          let z : n .read ≡ length chunk = omega (arith, x .all, left, m) in (
+            omega (arith, z, m),
+            record {
+              read = omega (arith, z);
+              short = kept-line .short;
+              whole = kept-line .whole;
+              out-kept = h .out-kept;
+              room = omega (arith, z, m, h .room);
+              rest = h .rest;
+              same = h .same ∙ x .run ∙ sym (runs-end _ chunk (n .read) (omega (arith, z)));
+            },
+          )
+
+      module _ (q : n .ended ≡ true) where
+        x : Ended now i (drop i chunk) n
+        x = line-ended (drop i chunk) now i n e q
+
+        pub line-more : i < n .read
+        line-more = x .more
+
+        pub line-within : n .read ≤ length chunk
+        line-within = omega (arith, x .within, left, m)
+
+        pub line-run : runs now (drop i chunk) ≡ runs (told now (lineOf (take (n .len) (n .line)))) (drop (n .read) chunk)
+        line-run =
+            let k : n .read ≡ i + (n .read - i) = omega (arith, x .more) in
+            x .run (n .read - i) k ∙ rw (drop-drop, ← k)
+
+-- from w and i on to w' and i'
+pub go-on :
+    (chunk out₀ : List ℕ) (end : Run) (ts ss fs out : List ℕ) (s : Session) (w i : ℕ) (ts' ss' fs' out' : List ℕ) (s' : Session) (w' i' : ℕ)
+    → At chunk out₀ end ts ss fs out blank 0 s w i → w ≤ w'
+    → At chunk out (runs (here blank 0 s ts ss fs (take w out)) (drop i chunk)) ts' ss' fs' out' blank 0 s' w' i'
+    → At chunk out₀ end ts' ss' fs' out' blank 0 s' w' i'
+go-on chunk out₀ end ts ss fs out s w i ts' ss' fs' out' s' w' i' h l g =
+    let k : w' ≡ w + (w' - w) = omega arith in
+    record {
+      read = g .read;
+      short = g .short;
+      whole = g .whole;
+      out-kept = g .out-kept ∙ h .out-kept;
+      room = g .room;
+      rest = g .rest ∙ rw k (sym (drop-drop (w' - w) w out) ∙ ap (drop (w' - w)) (h .rest) ∙ drop-drop (w' - w) w out₀);
+      same = h .same ∙ g .same;
+    }
 
 -- the chunk is at its end
 pub all-read :
-    (chunk out₀ : List ℕ) (r₀ : Run) (ts ss fs out line : List ℕ) (len : ℕ) (s : Session) (row : List ℕ) (w i : ℕ)
-    → Head chunk out₀ r₀ ts ss fs out line len s row w i → length chunk ≤ i → rowWidth * length chunk ≤ length out₀
-    → FedBy (record { taken = true; state = record { line = line; len = len; session = s }; written = w }) ts ss fs out (runs r₀ chunk) out₀
-all-read chunk out₀ r₀ ts ss fs out line len s row w i h z big =
+    (chunk out₀ : List ℕ) (end : Run) (ts ss fs out line : List ℕ) (len : ℕ) (s : Session) (w i : ℕ)
+    → At chunk out₀ end ts ss fs out line len s w i → length chunk ≤ i → rowWidth * length chunk ≤ length out₀
+    → FedBy (record { taken = true; state = record { line = line; len = len; session = s }; written = w }) ts ss fs out end out₀
+all-read chunk out₀ end ts ss fs out line len s w i h z big =
     let k : length (take w out) ≡ w = length-take-le w out (omega (arith, h .room, h .out-kept, h .read, big)) in
     rw (h .same ∙ runs-end (here line len s ts ss fs (take w out)) chunk i z)
     (record {

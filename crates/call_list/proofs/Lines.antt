@@ -1,9 +1,8 @@
 -- The next line of a chunk. Assumes nothing.
 use Prim.Native.Nat.{ℕ, zero, suc, _+_, _-_, _≤_, _<_}
 use mathlib.Core.Path.{_≡_, refl, sym, ap, _∙_}
-use mathlib.Core.Bool.{Bool, true, false, cond, _&&_}
+use mathlib.Core.Bool.{Bool, true, false, _&&_, true≢false}
 use mathlib.Core.List.{List, [], _∷_, _++_, append-assoc, append-nil}
-use native.Mathlib.Nat.{add-zero}
 use native.Mathlib.Numerals.{add-one}
 use native.Mathlib.Omega.{arith}
 use borrow.Author.Tests.{lt-ltb, le-ltb, eq-eqb, ne-eqb, eqb-true, ltb-true}
@@ -12,13 +11,10 @@ use lib.ListN.{length, getD, take, drop, set, length-set, length-take, drop-of-l
 use lib.Seq.{drop-cons, take-suc-set}
 use Rattle.call_line.specs.Line.{lineOf}
 use Rattle.call_line.proofs.Clear.{Clear, taken-clear}
-use Rattle.call_line.specs.declared.Line.{Line}
-use Rattle.call_line.specs.declared.Line.the-variants.{Taken, Refused, ReportRefused}
-use Rattle.call_list.specs.declared.Next.{Next}
-use Rattle.call_list.specs.declared.Said.{Said}
-use Rattle.call_list.specs.declared.Said.the-variants.{Whole, Nothing}
-use Rattle.call_list.specs.Feed.{width, kept, blank, pushedLine, pushedLen}
-use Rattle.call_list.specs.Pieces.{nextOf, takenLine, aheadOf}
+use Rattle.call_line.specs.declared.Call.{Call}
+use Rattle.call_line.specs.declared.Line.the-variants.{Taken}
+use Rattle.call_list.specs.Feed.{Run, width, kept, pushed, told, step, runs}
+use Rattle.call_list.specs.Pieces.{nextOf, mayStand}
 
 -- ---- a byte at the place i of the chunk
 
@@ -26,7 +22,7 @@ module _ (line : List ℕ) (len : ℕ) (s : List ℕ) (i : ℕ) (h : i < length 
   here : drop i s ≡ getD s i 0 ∷ drop (i + 1) s
   here = drop-cons s i 0 h ∙ ap (λ (n : ℕ). getD s i 0 ∷ drop n s) (sym (add-one i))
 
-  pub at-newline : getD s i 0 ≡ 10 → nextOf line len i (drop i s) ≡ record { line = blank; len = 0; read = i + 1; said = Whole (lineOf (take len line)) }
+  pub at-newline : getD s i 0 ≡ 10 → nextOf line len i (drop i s) ≡ record { line = line; len = len; read = i + 1; ended = true }
   unfolding nextOf
   at-newline e = rw here (simp (eq-eqb _ _ e))
 
@@ -38,71 +34,53 @@ module _ (line : List ℕ) (len : ℕ) (s : List ℕ) (i : ℕ) (h : i < length 
   unfolding nextOf
   at-full n l = rw here (simp (ne-eqb _ _ n, le-ltb _ _ l))
 
-pub at-end : (line : List ℕ) (len : ℕ) (s : List ℕ) (i : ℕ) → length s ≤ i → nextOf line len i (drop i s) ≡ record { line = line; len = len; read = i; said = Nothing }
+pub at-end : (line : List ℕ) (len : ℕ) (s : List ℕ) (i : ℕ) → length s ≤ i → nextOf line len i (drop i s) ≡ record { line = line; len = len; read = i; ended = false }
 unfolding nextOf
 at-end line len s i h = rw (drop-of-length-le s h)
 
 -- ---- a whole line
 
+pub run-on : (r : Run) (b : ℕ) (s : List ℕ) → eqb b 10 ≡ false → runs r (b ∷ s) ≡ runs (pushed r b) s
+unfolding runs step
+run-on r b s e = rw e
+
 -- bytes with no newline among them, and then one
-push-all :
-    (a t line : List ℕ) (len i : ℕ) → Clear a → len + length a ≤ kept → length line ≡ kept
-    → nextOf line len i (a ++ (10 ∷ t)) ≡ record { line = blank; len = 0; read = i + length a + 1; said = Whole (lineOf (take len line ++ a)) }
-unfolding nextOf
-push-all [] t line len i c l p = rw (append-nil, add-zero)
-push-all (b ∷ a) t line len i c l p =
+run-all :
+    (a t : List ℕ) (r : Run) → Clear a → r .len + length a ≤ kept → length (r .line) ≡ kept
+    → runs r (a ++ (10 ∷ t)) ≡ runs (told r (lineOf (take (r .len) (r .line) ++ a))) t
+unfolding runs step
+run-all [] t r c l p = rw append-nil
+run-all (b ∷ a) t r c l p =
     let n : b ≡ 10 → ⊥ = λ e. c zero (omega arith) e in
-    let h : len < kept = omega arith in
-    let q : length (set line len b) ≡ kept = simp length-set p in
-    let x : take (len + 1) (set line len b) ++ a ≡ take len line ++ (b ∷ a) =
-    rw (add-one, take-suc-set line len b (omega arith)) (append-assoc (take len line) (b ∷ []) a) in
-    let r : i + 1 + length a + 1 ≡ i + suc (length a) + 1 = omega arith in
-    simp (ne-eqb _ _ n, lt-ltb _ _ h)
-    (push-all a t (set line len b) (len + 1) (i + 1) (λ j m e. c (suc j) (omega arith) e) (omega arith) q ∙ rw (x, r))
+    let h : r .len < kept = omega arith in
+    let x : take (r .len + 1) (set (r .line) (r .len) b) ++ a ≡ take (r .len) (r .line) ++ (b ∷ a) =
+    rw (add-one, take-suc-set (r .line) (r .len) b (omega arith)) (append-assoc (take (r .len) (r .line)) (b ∷ []) a) in
+    let q : Run = record { line = set (r .line) (r .len) b; len = r .len + 1; machine = r .machine; reading = r .reading; out = r .out } in
+    let k : pushed r b ≡ q = rw (lt-ltb (r .len) kept h) in
+    run-on r b (a ++ (10 ∷ t)) (ne-eqb b 10 n) ∙ ap (λ (u : Run). runs u (a ++ (10 ∷ t))) k
+    ∙ run-all a t q (λ j m e. c (suc j) (omega arith) e) (omega arith) (simp length-set p) ∙ rw x
 
--- what `line_ahead` finds is the next line
-module _ (line : List ℕ) (s : List ℕ) (i : ℕ) (p : length line ≡ kept) where
-  at-whole :
-      (w : Line) → width < length s → getD s width 0 ≡ 10 → takenLine (lineOf (take width s)) ≡ Whole w
-      → nextOf line 0 i s ≡ record { line = blank; len = 0; read = i + width + 1; said = Whole w }
-  unfolding takenLine
-  at-whole w h e k = pick (lineOf (take width s)) refl k
+-- a line that may stand there, and is taken
+module _ (s : List ℕ) (e : mayStand s ≡ true) where
+  stands : (width < length s) × (getD s width 0 ≡ 10)
+  unfolding mayStand
+  stands = pick (ltb width (length s)) (eqb (getD s width 0) 10) refl refl e
     where
-      parts : s ≡ take width s ++ (10 ∷ drop (width + 1) s)
-      parts =
-          sym (take-append-drop width s)
-          ∙ ap (λ (x : List ℕ). take width s ++ x) (drop-cons s width 0 h ∙ rw e)
+      pick : (a b : Bool) → ltb width (length s) ≡ a → eqb (getD s width 0) 10 ≡ b → (a && b) ≡ true → (width < length s) × (getD s width 0 ≡ 10)
+      pick true true x y k = (ltb-true width (length s) x, eqb-true (getD s width 0) 10 y)
+      pick true false x y k = absurd (true≢false (sym k))
+      pick false b x y k = absurd (true≢false (sym k))
 
-      long : length (take width s) ≡ width
-      long = length-take width s ∙ omega arith
+  pub long : width < length s
+  long = stands .0
 
-      pick :
-          (l : Line) → lineOf (take width s) ≡ l → takenLine l ≡ Whole w
-          → nextOf line 0 i s ≡ record { line = blank; len = 0; read = i + width + 1; said = Whole w }
-      pick (Taken call) y z =
-          let v : Taken call ≡ w = cc in
-          ap (nextOf line 0 i) parts
-          ∙ push-all (take width s) (drop (width + 1) s) line 0 i (taken-clear (take width s) call y) (omega (arith, long)) p
-          ∙ rw (long, y, v)
-      pick (Refused refusal) y z = let v : _≡_ {A = ℕ} 0 1 = cc in absurd (omega arith)
-      pick (ReportRefused refusal) y z = let v : _≡_ {A = ℕ} 0 1 = cc in absurd (omega arith)
-
-  pub at-ahead :
-      (len : ℕ) (w : Line) → aheadOf len s ≡ Whole w
-      → nextOf line len i s ≡ record { line = blank; len = 0; read = i + width + 1; said = Whole w }
-  unfolding aheadOf
-  at-ahead len w e = pick (eqb len 0) (ltb width (length s)) (eqb (getD s width 0) 10) refl refl refl e
-    where
-      never : Nothing ≡ Whole w → nextOf line len i s ≡ record { line = blank; len = 0; read = i + width + 1; said = Whole w }
-      never q = let v : _≡_ {A = ℕ} 0 1 = cc in absurd (omega arith)
-
-      pick :
-          (a b c : Bool) → eqb len 0 ≡ a → ltb width (length s) ≡ b → eqb (getD s width 0) 10 ≡ c
-          → cond (a && (b && c)) (takenLine (lineOf (take width s))) Nothing ≡ Whole w
-          → nextOf line len i s ≡ record { line = blank; len = 0; read = i + width + 1; said = Whole w }
-      pick true true true x y z k =
-          let o : len ≡ 0 = eqb-true len 0 x in
-          rw o (at-whole w (ltb-true width (length s) y) (eqb-true (getD s width 0) 10 z) k)
-      pick true true false x y z k = never k
-      pick true false c x y z k = never k
-      pick false b c x y z k = never k
+  pub whole-line :
+      (r : Run) (call : Call) → r .len ≡ 0 → length (r .line) ≡ kept → lineOf (take width s) ≡ Taken call
+      → runs r s ≡ runs (told r (Taken call)) (drop (width + 1) s)
+  whole-line r call z p t =
+      let parts : s ≡ take width s ++ (10 ∷ drop (width + 1) s) =
+      sym (take-append-drop width s) ∙ ap (λ (x : List ℕ). take width s ++ x) (drop-cons s width 0 long ∙ rw (stands .1)) in
+      let w : length (take width s) ≡ width = length-take width s ∙ omega (arith, long) in
+      ap (runs r) parts
+      ∙ run-all (take width s) (drop (width + 1) s) r (taken-clear (take width s) call t) (omega (arith, w, z)) p
+      ∙ rw (z, t)

@@ -1,16 +1,33 @@
 -- A line's turn: without the controller, or with it. Assumes nothing.
-use Prim.Native.Nat.{ℕ}
+use Prim.Native.Nat.{ℕ, _<_}
 use mathlib.Core.Path.{_≡_, refl, sym, ap, _∙_}
-use mathlib.Core.Bool.{Bool, true, false, cond, true≢false}
+use mathlib.Core.Bool.{Bool, true, false, cond, _&&_, true≢false}
 use mathlib.Core.List.{List}
+use native.Mathlib.Omega.{arith}
+use borrow.Author.Tests.{eqb-true, ltb-true}
+use lib.Dec.{eqb, ltb}
+use lib.ListN.{length, take}
+use lib.Seq.{take-all}
+use Rattle.loss_controller.specs.declared.LossController.{LossController}
+use Rattle.loss_controller.specs.declared.ControllerAnswer.{ControllerAnswer}
 use Rattle.call_line.specs.declared.Call.{Call}
 use Rattle.call_line.specs.declared.Call.the-variants.{Estimate, Acknowledged, AlrOn, AlrOff, CapacityIs, CapacityNone, Packet, Report, Read}
 use Rattle.call_line.specs.declared.Line.{Line}
 use Rattle.call_line.specs.declared.Line.the-variants.{Taken, Refused, ReportRefused}
+use Rattle.call_list.specs.declared.Reading.{Reading}
 use Rattle.call_list.specs.declared.Session.{Session}
 use Rattle.call_list.specs.declared.Quiet.{Quiet}
-use Rattle.call_list.specs.Answer.{Queue, Queued, queueOf, machineOf, callQueued, lineQueued, callCalls, calls, lineControlled, afterOf, After}
-use Rattle.call_list.specs.Pieces.{QuietBy, calledBy}
+use Rattle.call_list.specs.Answer.{Queue, Queued, places, queueOf, machineOf, callQueued, lineQueued, callCalls, calls, callControlled, lineControlled, readingOf, afterOf, After}
+use Rattle.call_list.specs.Pieces.{QuietBy, calledBy, held, sameReading}
+
+-- ---- the queue
+
+pub held-take : (n : ℕ) (s : List ℕ) → length s ≡ places → take (held n) s ≡ take n s
+held-take n s h = pick (ltb places n) refl
+  where
+    pick : (t : Bool) → ltb places n ≡ t → take (cond t places n) s ≡ take n s
+    pick true e = take-all places s (omega arith) ∙ sym (take-all n s (let k : places < n = ltb-true places n e in omega arith))
+    pick false e = refl
 
 -- the columns of the queue are the same
 record Same (a b : Queue) : Type 0 where
@@ -84,3 +101,47 @@ module _
           sizes = rw k (h .sizes);
           flags = rw k (h .flags);
         }
+
+-- the same of a call
+module _
+    (s : Session) (ts ss fs : List ℕ) (call : Call) (q : Quiet) (ts' ss' fs' : List ℕ)
+    (h : QuietBy q ts' ss' fs' (callCalls call) (callQueued (queueOf (s .queued) ts ss fs) call))
+  where
+    -- the call is answered by the refusal f, and leaves the controller c with the reading r
+    abbrev pub Leaves : LossController → Reading → ℕ → Type 0
+    Leaves c r f =
+        After
+        (record { session = record { controller = c; reading = r; queued = q .queued }; answer = record { refusal = f; reading = r } })
+        ts' ss' fs' (s .reading) (Taken call) (afterOf (machineOf s ts ss fs) (Taken call))
+
+    module _ (c : LossController) (r : Reading) (f : ℕ) where
+      pub call-loudly :
+          q .calls ≡ true → (a : ControllerAnswer) → a ≡ callControlled (s .controller) (queueOf (s .queued) ts' ss' fs') call
+          → c ≡ a .controller → r ≡ readingOf (a .controller) → f ≡ a .refusal → Leaves c r f
+      unfolding calls lineQueued lineControlled
+      call-loudly e a x y z w = rw (y, z, w, x) (loudly s ts ss fs (Taken call) q ts' ss' fs' h e)
+
+      pub call-quietly : q .calls ≡ false → c ≡ s .controller → r ≡ s .reading → f ≡ q .refusal → Leaves c r f
+      unfolding calls lineQueued
+      call-quietly e x y z = rw (x, y, z) (quietly s ts ss fs (Taken call) q ts' ss' fs' h e)
+
+-- readings that are told to be the same
+pub same-is : (a b : Reading) → sameReading a b ≡ true → a ≡ b
+unfolding sameReading
+same-is a b e =
+    pick (eqb (a .rate) (b .rate)) (eqb (a .«inherent_loss») (b .«inherent_loss»)) (eqb (a .state) (b .state)) (eqb (a .published) (b .published))
+    refl refl refl refl e
+  where
+    pick :
+        (r l t p : Bool) → eqb (a .rate) (b .rate) ≡ r → eqb (a .«inherent_loss») (b .«inherent_loss») ≡ l
+        → eqb (a .state) (b .state) ≡ t → eqb (a .published) (b .published) ≡ p → (r && (l && (t && p))) ≡ true → a ≡ b
+    pick true true true true r l t p k =
+        let x = eqb-true (a .rate) (b .rate) r in
+        let y = eqb-true (a .«inherent_loss») (b .«inherent_loss») l in
+        let z = eqb-true (a .state) (b .state) t in
+        let w = eqb-true (a .published) (b .published) p in
+        rw (x, y, z, w)
+    pick false l t p x y z w k = absurd (true≢false (sym k))
+    pick true false t p x y z w k = absurd (true≢false (sym k))
+    pick true true false p x y z w k = absurd (true≢false (sym k))
+    pick true true true false x y z w k = absurd (true≢false (sym k))

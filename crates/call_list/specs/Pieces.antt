@@ -1,22 +1,18 @@
 -- The pieces that `feed` is made of. Definitions only.
-use Prim.Native.Nat.{ℕ, _+_, _-_}
+use Prim.Native.Nat.{ℕ, _+_, _*_, _≤_}
 use mathlib.Core.Path.{_≡_}
-use mathlib.Core.Bool.{Bool, cond, _&&_}
+use mathlib.Core.Bool.{Bool, true, false, cond, _&&_}
 use mathlib.Core.List.{List, [], _∷_, _++_}
 use lib.Dec.{eqb, ltb}
 use lib.ListN.{length, take, drop, getD}
 use Rattle.loss_controller.specs.declared.ControllerAnswer.{ControllerAnswer}
-use Rattle.call_line.specs.Line.{lineOf}
-use Rattle.call_line.specs.declared.Line.{Line}
-use Rattle.call_line.specs.declared.Line.the-variants.{Taken, Refused, ReportRefused}
+use Rattle.call_list.specs.declared.Reading.{Reading}
 use Rattle.call_list.specs.declared.Session.{Session}
 use Rattle.call_list.specs.declared.LineAnswer.{LineAnswer}
 use Rattle.call_list.specs.declared.Quiet.{Quiet}
 use Rattle.call_list.specs.declared.Next.{Next}
-use Rattle.call_list.specs.declared.Said.{Said}
-use Rattle.call_list.specs.declared.Said.the-variants.{Whole, Nothing}
-use Rattle.call_list.specs.Answer.{Queue, Queued, queueOf, lineControlled, lineQueued, readingOf}
-use Rattle.call_list.specs.Feed.{width, kept, blank, pushedLine, pushedLen}
+use Rattle.call_list.specs.Answer.{Queued, places, machineOf, readingOf}
+use Rattle.call_list.specs.Feed.{Run, width, kept, rowWidth, pushedLine, pushedLen, runs}
 
 -- what a line leaves without the controller
 pub record QuietBy (r : Quiet) (ts ss fs : List ℕ) (calls : Bool) (q : Queued) : Type 0 where
@@ -33,23 +29,44 @@ calledBy a n =
       answer = record { refusal = a .refusal; reading = readingOf (a .controller) };
     }
 
--- the line so far and the next bytes: up to the newline, or all of them; i counts bytes
+-- how many packets the queue has: all its places where more are counted
+abbrev pub held : ℕ → ℕ
+held n = cond (ltb places n) places n
+
+-- ---- a line that ends in the bytes s
+
+-- the bytes of a line that are kept, up to the newline or all of them; i counts bytes
 unfoldable pub nextOf : List ℕ → ℕ → ℕ → List ℕ → Next
-nextOf line len i [] = record { line = line; len = len; read = i; said = Nothing }
+nextOf line len i [] = record { line = line; len = len; read = i; ended = false }
 nextOf line len i (b ∷ s) =
     cond (eqb b 10)
-    (record { line = blank; len = 0; read = i + 1; said = Whole (lineOf (take len line)) })
+    (record { line = line; len = len; read = i + 1; ended = true })
     (nextOf (pushedLine line len b) (pushedLen len) (i + 1) s)
 
--- a line that is taken
-unfoldable pub takenLine : Line → Said
-takenLine (Taken call) = Whole (Taken call)
-takenLine (Refused refusal) = Nothing
-takenLine (ReportRefused refusal) = Nothing
+-- ---- lines that stand whole in them
 
--- the line that starts the bytes s, where it is taken, and nothing of it was read before
-unfoldable pub aheadOf : ℕ → List ℕ → Said
-aheadOf len s = cond (eqb len 0 && (ltb width (length s) && eqb (getD s width 0) 10)) (takenLine (lineOf (take width s))) Nothing
+-- whether a newline stands where a line in shape has its own
+unfoldable pub mayStand : List ℕ → Bool
+mayStand s = ltb width (length s) && eqb (getD s width 0) 10
+
+unfoldable pub sameReading : Reading → Reading → Bool
+sameReading a b =
+    eqb (a .rate) (b .rate) && (eqb (a .«inherent_loss») (b .«inherent_loss») && (eqb (a .state) (b .state) && eqb (a .published) (b .published)))
+
+-- ---- a chunk that is partly answered
+
+abbrev pub here : List ℕ → ℕ → Session → List ℕ → List ℕ → List ℕ → List ℕ → Run
+here line len s ts ss fs out = record { line = line; len = len; machine = machineOf s ts ss fs; reading = s .reading; out = out }
+
+-- its first i bytes are, by w bytes of the output, which was out₀; the others lead to the run `end`
+pub record At (chunk out₀ : List ℕ) (end : Run) (ts ss fs out line : List ℕ) (len : ℕ) (s : Session) (w i : ℕ) : Type 0 where
+  pub read : i ≤ length chunk
+  pub short : len ≤ kept
+  pub whole : length line ≡ kept
+  pub out-kept : length out ≡ length out₀
+  pub room : w ≤ rowWidth * i
+  pub rest : drop w out ≡ drop w out₀
+  pub same : end ≡ runs (here line len s ts ss fs (take w out)) (drop i chunk)
 
 -- s with the bytes p from index `from` on
 abbrev pub laid : ℕ → List ℕ → List ℕ → List ℕ

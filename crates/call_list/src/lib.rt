@@ -4,7 +4,7 @@ ghost use mathlib.Core.Path.{_≡_};
 ghost use mathlib.Core.Bool.{true, false};
 ghost use Prim.Native.Nat.{_+_, _-_, _*_, _≤_};
 ghost use mathlib.Core.List.{_++_};
-ghost use lib.ListN.{length, drop};
+ghost use lib.ListN.{length, take, drop};
 ghost use Rattle.call_line.specs.Column.{column};
 ghost use Rattle.call_line.specs.Line.{lineOf};
 ghost use Rattle.call_list.specs.Answer as Answers;
@@ -200,7 +200,16 @@ fn unchanged(controller: LossController) -> ControllerAnswer
     }
 }
 
-// The first packets of the queue, all of it where it counts more.
+// How many packets the queue has: all its places where more are counted.
+fn held(queued: usize) -> usize
+    ensures { λ r. ⌜ (r ≡ Pieces.held queued) × (r ≤ Answers.places) ⌝ }
+{
+    if queued > PLACES {
+        return PLACES;
+    }
+    queued
+}
+
 fn report(
     controller: LossController,
     queued: usize,
@@ -212,15 +221,8 @@ fn report(
     requires { ⌜ (length (now times) ≡ Answers.places) × (length (now sizes) ≡ Answers.places) × (length (now flags) ≡ Answers.places) ⌝ }
     ensures { λ r. ⌜ r ≡ Answers.reportOf controller (Answers.queueOf queued (now (times .entry)) (now (sizes .entry)) (now (flags .entry))) delay ⌝ }
 {
-    if queued > PLACES {
-        return controller.update_bandwidth_estimate(times, sizes, flags, delay);
-    }
-    controller.update_bandwidth_estimate(
-        &times[..queued],
-        &sizes[..queued],
-        &flags[..queued],
-        delay,
-    )
+    let n = held(queued);
+    controller.update_bandwidth_estimate(&times[..n], &sizes[..n], &flags[..n], delay)
 }
 
 fn control_call(
@@ -368,9 +370,9 @@ fn text(reading: Reading) -> [u8; TEXT]
 }
 
 // An answer, in out from w on.
-fn put_row(refusal: u8, text: [u8; TEXT], out: &mut [u8], w: usize)
-    requires { ⌜ w + Feeding.rowWidth ≤ length (now out) ⌝ }
-    ensures { λ _. ⌜ now (out .exit) ≡ Pieces.laid w (column 2 refusal ++ text) (now (out .entry)) ⌝ }
+fn put_row(refusal: u8, text: &[u8], out: &mut [u8], w: usize)
+    requires { ⌜ (length (now text) ≡ 45) × (w + Feeding.rowWidth ≤ length (now out)) ⌝ }
+    ensures { λ _. ⌜ now (out .exit) ≡ Pieces.laid w (column 2 refusal ++ now (text .entry)) (now (out .entry)) ⌝ }
 {
     put_column(out, w, w + 2, refusal as u64);
     let mut k = 0;
@@ -380,49 +382,15 @@ fn put_row(refusal: u8, text: [u8; TEXT], out: &mut [u8], w: usize)
     }
 }
 
-// ---- the next line of a chunk
+// ---- a line that a chunk ends
 
-enum Said {
-    Whole(Line),
-    Nothing,
-}
-
-// The line so far, how much of the chunk is read, and the line that ended there.
+// The bytes of the line that are kept, how much of the chunk is read, and whether the line ended
+// there.
 struct Next {
     line: [u8; KEPT],
     len: usize,
     read: usize,
-    said: Said,
-}
-
-fn taken_line(line: Line) -> Said
-    ensures { λ r. ⌜ r ≡ Pieces.takenLine line ⌝ }
-{
-    match line {
-        Line::Taken(call) => Said::Whole(Line::Taken(call)),
-        Line::Refused(_) => Said::Nothing,
-        Line::ReportRefused(_) => Said::Nothing,
-    }
-}
-
-// A line that stands whole in the chunk from `from` on and is taken: it has no newline before the
-// one after its last column, so that the others need not be looked at.
-fn line_ahead(len: usize, chunk: &[u8], from: usize) -> Said
-    requires { ⌜ from ≤ length (now chunk) ⌝ }
-    ensures { λ r. ⌜ r ≡ Pieces.aheadOf len (drop from (now (chunk .entry))) ⌝ }
-{
-    if len != 0 {
-        return Said::Nothing;
-    }
-    if chunk.len() - from <= call_line::LINE_WIDTH {
-        return Said::Nothing;
-    }
-    let end = from + call_line::LINE_WIDTH;
-    if chunk[end] != b'\n' {
-        return Said::Nothing;
-    }
-    let line = call_line::read_line(&chunk[from..end]);
-    taken_line(line)
+    ended: bool,
 }
 
 // Byte by byte, up to the newline or the end of the chunk.
@@ -437,12 +405,11 @@ fn read_on(line: [u8; KEPT], len: usize, chunk: &[u8], from: usize) -> Next
         let b = chunk[i];
         i += 1;
         if b == b'\n' {
-            let whole = call_line::read_line(&line[..len]);
             return Next {
-                line: [0u8; KEPT],
-                len: 0,
+                line,
+                len,
                 read: i,
-                said: Said::Whole(whole),
+                ended: true,
             };
         } else if len < KEPT {
             line[len] = b;
@@ -453,23 +420,96 @@ fn read_on(line: [u8; KEPT], len: usize, chunk: &[u8], from: usize) -> Next
         line,
         len,
         read: i,
-        said: Said::Nothing,
+        ended: false,
     }
 }
 
-fn next_line(line: [u8; KEPT], len: usize, chunk: &[u8], from: usize) -> Next
-    requires { ⌜ (len ≤ Feeding.kept) × (from ≤ length (now chunk)) ⌝ }
-    ensures { λ r. ⌜ r ≡ Pieces.nextOf line len from (drop from (now (chunk .entry))) ⌝ }
+// ---- lines that stand whole in a chunk
+
+// What is read of the chunk and written of the answers.
+struct Progress {
+    session: Session,
+    read: usize,
+    written: usize,
+}
+
+// Whether a newline stands where a line in shape that starts at `from` has its own.
+fn may_stand(chunk: &[u8], from: usize) -> bool
+    requires { ⌜ from ≤ length (now chunk) ⌝ }
+    ensures { λ r. ⌜ r ≡ Pieces.mayStand (drop from (now (chunk .entry))) ⌝ }
 {
-    let ahead = line_ahead(len, chunk, from);
-    match ahead {
-        Said::Whole(whole) => Next {
-            line: [0u8; KEPT],
-            len: 0,
-            read: from + call_line::LINE_WIDTH + 1,
-            said: Said::Whole(whole),
+    if chunk.len() - from <= call_line::LINE_WIDTH {
+        return false;
+    }
+    chunk[from + call_line::LINE_WIDTH] == b'\n'
+}
+
+fn same(a: Reading, b: Reading) -> bool
+    ensures { λ r. ⌜ r ≡ Pieces.sameReading a b ⌝ }
+{
+    if a.rate != b.rate {
+        return false;
+    }
+    if a.inherent_loss != b.inherent_loss {
+        return false;
+    }
+    if a.state != b.state {
+        return false;
+    }
+    a.published == b.published
+}
+
+// The lines from `from` on, up to one that is not taken or does not stand whole. A line that is
+// taken has no newline among its columns, so that they need not be searched for one.
+fn whole_lines(
+    session: Session,
+    times: &mut [u64; PLACES],
+    sizes: &mut [PacketSize; PLACES],
+    flags: &mut [u8; PLACES],
+    chunk: &[u8],
+    from: usize,
+    out: &mut [u8],
+    written: usize,
+) -> Progress
+    requires { ⌜ (from ≤ length (now chunk)) × (written ≤ Feeding.rowWidth * from) × (Feeding.rowWidth * length (now chunk) ≤ length (now out)) ⌝ }
+    ensures { λ r. ⌜ (from ≤ r .read) × (written ≤ r .written) × Pieces.At (now (chunk .entry)) (now (out .entry)) (Feeding.runs (Pieces.here Feeding.blank 0 session (now (times .entry)) (now (sizes .entry)) (now (flags .entry)) (take written (now (out .entry)))) (drop from (now (chunk .entry)))) (now (times .exit)) (now (sizes .exit)) (now (flags .exit)) (now (out .exit)) Feeding.blank 0 (r .session) (r .written) (r .read) ⌝ }
+{
+    let mut controller = session.controller;
+    let mut reading = session.reading;
+    let mut queued = session.queued;
+    let mut row = text(reading);
+    let mut w = written;
+    let mut i = from;
+    while may_stand(chunk, i) {
+        let end = i + call_line::LINE_WIDTH;
+        let Line::Taken(call) = call_line::read_line(&chunk[i..end]) else {
+            break;
+        };
+        let quiet = quiet_call(queued, times, sizes, flags, call);
+        let mut refusal = quiet.refusal;
+        if quiet.calls {
+            let answer = control_call(controller, queued, times, sizes, flags, call);
+            controller = answer.controller;
+            refusal = answer.refusal;
+            let now = read(controller);
+            if !same(reading, now) {
+                reading = now;
+                row = text(now);
+            }
+        }
+        queued = quiet.queued;
+        put_row(refusal, &row, out, w);
+        w += ROW;
+        i = end + 1;
+    }
+    Progress {
+        session: Session {
+            controller,
+            reading,
+            queued,
         },
-        Said::Nothing => read_on(line, len, chunk, from),
+        read: i,
+        written: w,
     }
 }
 
@@ -530,34 +570,26 @@ fn feed_all(
     let mut line = state.line;
     let mut len = state.len;
     let mut session = state.session;
-    let reading = session.reading;
-    let mut row = text(reading);
     let mut w = 0;
     let mut i = 0;
     while i < chunk.len() {
-        let next = next_line(line, len, chunk, i);
+        let next = read_on(line, len, chunk, i);
         line = next.line;
         len = next.len;
         i = next.read;
-        let said = next.said;
-        match said {
-            Said::Whole(whole) => {
-                let quiet = quiet_line(session.queued, times, sizes, flags, whole);
-                if quiet.calls {
-                    let done = called(session, quiet.queued, times, sizes, flags, whole);
-                    session = done.session;
-                    let answer = done.answer;
-                    let reading = answer.reading;
-                    row = text(reading);
-                    put_row(answer.refusal, row, out, w);
-                    w += ROW;
-                } else {
-                    session.queued = quiet.queued;
-                    put_row(quiet.refusal, row, out, w);
-                    w += ROW;
-                }
-            }
-            Said::Nothing => {}
+        if next.ended {
+            let done = answer_line(session, times, sizes, flags, &line[..len]);
+            let answer = done.answer;
+            let reading = answer.reading;
+            let row = text(reading);
+            put_row(answer.refusal, &row, out, w);
+            let answered = done.session;
+            let progress = whole_lines(answered, times, sizes, flags, chunk, i, out, w + ROW);
+            line = [0u8; KEPT];
+            len = 0;
+            session = progress.session;
+            i = progress.read;
+            w = progress.written;
         }
     }
     Fed {
@@ -619,7 +651,8 @@ pub fn finish(
     let done = answer_line(session, times, sizes, flags, &line[..len]);
     let answer = done.answer;
     let reading = answer.reading;
-    put_row(answer.refusal, text(reading), out, 0);
+    let row = text(reading);
+    put_row(answer.refusal, &row, out, 0);
     let next = done.session;
     Fed {
         taken: true,

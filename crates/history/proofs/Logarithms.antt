@@ -7,7 +7,7 @@ use native.Mathlib.Omega.{arith}
 use lib.Dec.{T, leb, leb→le, nleb→lt, lit≤, lit<}
 use lib.IntN.{ℤ, pos, negsuc}
 use lib.Pow.{pow-add, pow-mono, pow-pos}
-use lib.Ieee.{Float, inf, fin, binary64, up, down, round, lt, le, fits, ofBits}
+use lib.Ieee.{Float, fin, binary64, up, down, round, le, fits, ofBits}
 use lib.Ieee.Fits.{down-pos}
 use lib.Ieee.Bits.{is-true}
 use lib.Ieee.Order.{round-mono}
@@ -25,16 +25,16 @@ use Rattle.history.proofs.NotNegative.{NotNegative}
 abbrev pub smallest : Float
 smallest = bits 0x0010000000000000
 
-below-infinity : (x : Float) → T (positive x) → lt x (inf false) ≡ true
-unfolding lt
-below-infinity (fin false m e) p = refl
+-- the largest finite one
+abbrev pub largest : Float
+largest = bits 0x7FEFFFFFFFFFFFFF
 
--- a float from lo, which is normal, to hi has a logarithm
-pub logarithm-between : (lo x hi : Float) → T (positive lo) → T (positive hi) → T (le smallest lo) → T (le lo x) → T (le x hi) → logarithm x .refusal ≡ 0
+-- a float from lo to hi, both of them normal, has a logarithm
+pub logarithm-between : (lo x hi : Float) → T (positive lo) → T (positive hi) → T (le smallest lo) → T (le hi largest) → T (le lo x) → T (le x hi) → logarithm x .refusal ≡ 0
 unfolding logarithm ofBits
-logarithm-between lo x hi p q normal l h =
+logarithm-between lo x hi p q normal finite l h =
     let z : T (positive x) = between lo x hi p q l h in
-    rw (is-true (le smallest x) (le-trans-positive smallest lo x tt p z normal l), below-infinity x z)
+    rw (is-true (le smallest x) (le-trans-positive smallest lo x tt p z normal l), is-true (le x largest) (le-trans-positive x hi largest z q tt h finite))
 
 -- ---- the largest float
 
@@ -69,6 +69,10 @@ top-positive : T (positive top)
 unfolding round
 top-positive = tt
 
+top-finite : T (le top largest)
+unfolding round ofBits le
+top-finite = tt
+
 one-is : one ≡ round binary64 false 1 1
 unfolding ofBits round
 one-is = refl
@@ -84,12 +88,12 @@ one-more (fin true m e) n f = absurd (n .above)
 one-more (fin false m e) n f =
     let d : 0 < 1 * down e = rw one-mul (down-pos e) in
     rw (add-is one (fin false m e) tt tt)
-    (logarithm-between one _ top tt top-positive one-normal
+    (logarithm-between one _ top tt top-positive one-normal top-finite
     (rw one-is (round-mono binary64 1 1 (1 * down e + m * up e * 1) (1 * down e) (lit< tt) d (least (m * up e) (down e))))
-    (round-mono binary64 (1 * down e + m * up e * 1) (1 * down e) (most + 1) 1 d (lit< tt) (largest (m * up e) (down e) most (fits-most m e (n .holds)))))
+    (round-mono binary64 (1 * down e + m * up e * 1) (1 * down e) (most + 1) 1 d (lit< tt) (at-most (m * up e) (down e) most (fits-most m e (n .holds)))))
   where
     least : (a d : ℕ) → 1 * (1 * d) ≤ (1 * d + a * 1) * 1
     least a d = omega arith
 
-    largest : (a d most : ℕ) → a ≤ most * d → (1 * d + a * 1) * 1 ≤ (most + 1) * (1 * d)
-    largest a d most h = omega arith
+    at-most : (a d most : ℕ) → a ≤ most * d → (1 * d + a * 1) * 1 ≤ (most + 1) * (1 * d)
+    at-most a d most h = omega arith

@@ -146,8 +146,8 @@ between-probable p l h =
     let P : T (positive p) = between least p most tt tt l h in
     let up-to : T (le p one) = le-trans-positive p most one P tt tt h tt in
     record {
-      lost = logarithm-between least p most tt tt tt l h;
-      received = logarithm-between (one ⊖ most) (one ⊖ p) most tt tt tt (sub-anti binary64 one p most tt P tt h tt) (sub-anti binary64 one least p tt tt P l up-to);
+      lost = logarithm-between least p most tt tt tt tt l h;
+      received = logarithm-between (one ⊖ most) (one ⊖ p) most tt tt tt tt (sub-anti binary64 one p most tt P tt h tt) (sub-anti binary64 one least p tt tt P l up-to);
     }
 
 under-le : (x y : Float) → Under x y → T (le x y)

@@ -1,8 +1,8 @@
 -- The natural logarithm by document 01's steps ("Logarithm and powers"), under the paper's names. Definitions only.
 use Prim.Native.Nat.{ℕ, _+_, _*_, _/_, _%_, _^_}
-use mathlib.Core.Bool.{false, cond, _&&_}
+use mathlib.Core.Bool.{cond, _&&_}
 use lib.IntN.{pos, _-ℤ_}
-use lib.Ieee.{Float, inf, binary64, ofInt, toBits, lt, le}
+use lib.Ieee.{Float, binary64, ofInt, toBits, le}
 use Rattle.float.specs.Rounded.{bits, _⊕_, _⊖_, _⊗_, _⊘_}
 use Rattle.float.specs.Answer.{answered}
 use Rattle.float.specs.declared.FloatAnswer.{FloatAnswer}
@@ -64,10 +64,10 @@ logarithmOfBits n =
 
 -- ---- the argument: positive, normal, finite
 
--- and so from the smallest normal number up to below infinity; any other gets 0.0 beside the number 6
+-- and so from the smallest normal number to the largest finite one; any other gets 0.0 beside the number 6
 unfoldable pub logarithm : Float → FloatAnswer
 unfolding logarithmOfBits
 logarithm x =
-    cond (le (bits 0x0010000000000000) x && lt x (inf false))
+    cond (le (bits 0x0010000000000000) x && le x (bits 0x7FEFFFFFFFFFFFFF))
     (answered (logarithmOfBits (toBits binary64 x)))
     (record { value = bits 0; refusal = 6 })

@@ -26,6 +26,8 @@ const L7: f64 = 0.14798198605116586; // 3FC2F112DF3E5244
 
 const SMALLEST_NORMAL: f64 = 2.2250738585072014e-308;
 
+const LARGEST_FINITE: f64 = 1.7976931348623157e308;
+
 // A bit pattern's halves, and the fields of the upper one: each is a quotient or a remainder.
 const TWO_20: u64 = 0x10_0000;
 
@@ -36,7 +38,7 @@ pub fn ln(x: f64) -> FloatAnswer
     ensures { λ r. ⌜ r ≡ logarithm x ⌝ }
 {
     if x >= SMALLEST_NORMAL {
-        if x < float::infinity() {
+        if x <= LARGEST_FINITE {
             let value = ln_of_bits(float::to_bits(x));
             return FloatAnswer { value, refusal: 0 };
         }

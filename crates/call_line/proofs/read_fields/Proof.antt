@@ -1,26 +1,29 @@
--- `read_fields` meets its contract. Assumes nothing.
-use Prim.Native.Nat.{ℕ, _+_, _-_, _≤_, _<_}
+-- `read_fields` meets its contract: in a column, the number so far, and the digits ahead, are all. Assumes nothing.
+use Prim.Native.Nat.{ℕ, _+_, _-_, _*_, _^_, _≤_, _<_}
 use mathlib.Core.Path.{_≡_, refl, sym, ap, _∙_}
 use mathlib.Core.Bool.{true, false}
 use mathlib.Core.List.{List}
 use mathlib.Core.Logic.{⊎-elim}
+use native.Mathlib.Nat.{sub-self}
 use native.Mathlib.Omega.{arith}
 use borrow.Author.Tests.{not-true, not-false}
 use borrow.Author.Needs.{needs}
-use lib.ListN.{length, getD, length-set}
+use lib.ListN.{length, getD, drop, length-set}
 use Rattle.call_line.specs.declared.Number.the-variants.{Value, Wrong}
-use Rattle.call_line.specs.Column.{isDigit, columnOf, digitsOf, start, cut}
+use Rattle.call_line.specs.Column.{asciiZero, isDigit, more, columnOf, digitsOf, start, cut}
 use Rattle.call_line.specs.Line.{widths}
-use Rattle.call_line.proofs.Columns.{part, start-next, within, spaces-within, column-is, all-digits, digit-more, no-digit-at, cut-part, other-width, wrong-column, right-columns, one-more}
+use Rattle.call_line.proofs.Reading.{digit-bounds, digits-fit}
+use Rattle.call_line.proofs.Columns.{part, start-next, within, length-part, spaces-within, column-is, digit-more, no-digit-at, cut-part, other-width, wrong-column, right-columns, one-more}
 use Rattle.call_line.proofs.read_fields.Statement.{statement}
 use Rattle.call_line.proofs.read_fields.Tie as tie
 
 abbrev Inv-loop : tie.InvT-loop
-Inv-loop line values from k to first i₀ i =
-    (first ≤ i) × (i ≤ to) × ((j : ℕ) → first ≤ j → j < i → isDigit (getD line j 0) ≡ true)
+Inv-loop line values from k to first tens₀ i₀ tens i =
+    (first ≤ i) × (i - first ≤ to - first - 1) × (tens < 10 ^ (i - first))
+    × (more 0 (part first to line) ≡ more tens (drop (i - first) (part first to line)))
 
 abbrev μ-loop : tie.MeasureT-loop
-μ-loop line values from k to first i₀ i = to - i
+μ-loop line values from k to first tens₀ i₀ tens i = to - i
 
 abbrev Inv-columns : tie.InvT-columns
 Inv-columns line values₀ from₀ k₀ values from k =
@@ -69,6 +72,30 @@ odd :
     (c : Led) (i : ℕ) → first c ≤ i → i < to c → isDigit (getD (S c) i 0) ≡ false → columnOf (cut widths (k c) (S c)) ≡ Wrong
 odd c i l u n = says c ∙ no-digit-at (S c) (first c) (to c) (ends (c .before .before)) i l u n
 
+-- a turn over a column's digits
+abbrev Turn : Type 0
+Turn = tie.Else2 Inv-loop μ-loop Inv-columns μ-columns
+
+abbrev head : Turn → tie.At-loop Inv-loop μ-loop Inv-columns μ-columns
+head c = c .before .before .before .before
+
+abbrev byte : Turn → ℕ
+byte c = getD (S (head c .before)) (head c .loop .i) 0
+
+-- its byte is a digit, with which the number fits
+digit : (c : Turn) → isDigit (byte c) ≡ true
+digit c = sym (c .before .is-digit .ensures) ∙ not-false _ (c .if2 .left)
+
+abbrev next : Turn → ℕ
+next c = head c .loop .tens * 10 + (byte c - asciiZero)
+
+fits : (c : Turn) → (next c < 10 ^ (head c .loop .i + 1 - first (head c .before))) × (next c < 2 ^ 64)
+fits c =
+    let l = head c in
+    digits-fit (first (l .before)) (l .loop .i) (l .loop .tens) (byte c) (l .loop .inv .0)
+    (omega (arith, within (k (l .before)) (l .before .before .before .columns-test .taken)))
+    (l .loop .inv .2) (digit c)
+
 returns : tie.Need-returns Inv-loop μ-loop Inv-columns μ-columns
 returns c = sym (other-width _ (c .if1 .taken))
 
@@ -101,35 +128,51 @@ add-first : tie.Need-add-first Inv-loop μ-loop Inv-columns μ-columns
 add-first c = omega (arith, ends (c .before .before), spaces c)
 
 loop-holds : tie.Need-loop-holds Inv-loop μ-loop Inv-columns μ-columns
-loop-holds c = (omega arith, spaces c, λ j l u. absurd (omega arith))
+loop-holds c = (omega arith, omega arith, rw sub-self (omega arith), rw sub-self)
 
-shared-slice-read-is-digit :
-    tie.Need-shared-slice-read-is-digit Inv-loop μ-loop Inv-columns μ-columns
-shared-slice-read-is-digit c = omega (arith, ends (c .before .before .before .before .before))
+add-loop : tie.Need-add-loop Inv-loop μ-loop Inv-columns μ-columns
+add-loop c = omega (arith, spaces (c .before), ends (c .before .before .before))
+
+shared-slice-read-byte : tie.Need-shared-slice-read-byte Inv-loop μ-loop Inv-columns μ-columns
+shared-slice-read-byte c = omega (arith, ends (c .before .before .before .before .before))
 
 is-digit-requires : tie.Need-is-digit-requires Inv-loop μ-loop Inv-columns μ-columns
 is-digit-requires c κs = search needs
 
+mul-tens : tie.Need-mul-tens Inv-loop μ-loop Inv-columns μ-columns
+mul-tens c = omega (arith, fits c)
+
+sub-tens : tie.Need-sub-tens Inv-loop μ-loop Inv-columns μ-columns
+sub-tens c = omega (arith, digit-bounds _ (digit c))
+
+cast-tens : tie.Need-cast-tens Inv-loop μ-loop Inv-columns μ-columns
+cast-tens c = omega (arith, fits c)
+
+add-tens : tie.Need-add-tens Inv-loop μ-loop Inv-columns μ-columns
+add-tens c = omega (arith, fits c)
+
 add-i : tie.Need-add-i Inv-loop μ-loop Inv-columns μ-columns
-add-i c = omega (arith, ends (c .before .before .before .before .before .before .before))
+add-i c = omega (arith, ends (head c .before .before .before))
 
 loop-less : tie.Need-loop-less Inv-loop μ-loop Inv-columns μ-columns
 loop-less c = search needs
 
 loop-again : tie.Need-loop-again Inv-loop μ-loop Inv-columns μ-columns
 loop-again c =
-    let l = c .before .before .before .before in (
+    let l = head c in (
       omega arith,
       omega arith,
-      digit-more (S (l .before)) (first (l .before)) (to (l .before)) (ends (l .before .before .before)) (l .loop .i) (l .loop .inv .2)
-          (sym (c .before .is-digit .ensures) ∙ not-false _ (c .if2 .left)),
+      fits c .0,
+      l .loop .inv .3
+          ∙ digit-more (S (l .before)) (first (l .before)) (to (l .before)) (ends (l .before .before .before)) (l .loop .i) (l .loop .tens)
+          (l .loop .inv .0) (omega arith) (digit c) (fits c .1),
     )
 
 sub-read-number : tie.Need-sub-read-number Inv-loop μ-loop Inv-columns μ-columns
 sub-read-number c = spaces (c .before .before)
 
 part-read-number-start : tie.Need-part-read-number-start Inv-loop μ-loop Inv-columns μ-columns
-part-read-number-start c = search needs
+part-read-number-start c = spaces (c .before .before)
 
 part-read-number-end : tie.Need-part-read-number-end Inv-loop μ-loop Inv-columns μ-columns
 part-read-number-end c = ends (c .before .before .before .before)
@@ -137,7 +180,9 @@ part-read-number-end c = ends (c .before .before .before .before)
 read-number-requires : tie.Need-read-number-requires Inv-loop μ-loop Inv-columns μ-columns
 read-number-requires c κs =
     let l = c .before .before in
-    all-digits (S (l .before)) (first (l .before)) (to (l .before)) (ends (l .before .before .before)) (λ j low up. l .loop .inv .2 j low (omega arith))
+    let e = length-part (S (l .before)) (first (l .before)) (to (l .before)) (ends (l .before .before .before)) in
+    let n : to (l .before) - first (l .before) - 1 ≡ l .loop .i - first (l .before) = omega arith in
+    rw (e, n) (l .loop .inv .3)
 
 enum-known-value : tie.Need-enum-known-value Inv-loop μ-loop Inv-columns μ-columns
 enum-known-value c = search needs
@@ -176,7 +221,7 @@ returns-2 c =
     ⊎-elim
     (λ w. absurd (omega arith))
     (⊎-elim
-    (λ w. odd (record { before = record { before = record { before = l; columns-test = w .0 }; leading-spaces-arg = w .1 }; leading-spaces = w .2 }) (w .3 .i) (w .3 .inv .0) (w .4 .taken) (sym (w .6 .ensures) ∙ not-true _ (w .7 .taken)))
+    (λ w. odd (record { before = record { before = record { before = l; columns-test = w .0 }; leading-spaces-arg = w .1 }; leading-spaces = w .2 }) (w .3 .i) (w .3 .inv .0) (omega arith) (sym (w .6 .ensures) ∙ not-true _ (w .7 .taken)))
     (λ w. says (record { before = record { before = record { before = l; columns-test = w .0 }; leading-spaces-arg = w .1 }; leading-spaces = w .2 }) ∙ sym (w .6 .ensures) ∙ w .8 .given .1))
     (c .before .columns-test .came) in
     sym (wrong-column s (l .before .if1 .left) (l .columns .k) (c .if3 .taken) wrong)
@@ -217,8 +262,13 @@ read-fields-spec =
     leading-spaces-requires
     add-first
     loop-holds
-    shared-slice-read-is-digit
+    add-loop
+    shared-slice-read-byte
     is-digit-requires
+    mul-tens
+    sub-tens
+    cast-tens
+    add-tens
     add-i
     loop-less
     loop-again

@@ -1,108 +1,110 @@
--- `read_number` meets its contract: the number so far, and the digits ahead, are all. Assumes nothing.
-use Prim.Native.Nat.{ℕ, _+_, _-_, _*_, _^_, _≤_, _<_}
+-- `read_number` meets its contract: `tens`, and the last digit, are all. Assumes nothing.
+use Prim.Native.Nat.{ℕ, _+_, _-_, _≤_}
 use mathlib.Core.Path.{_≡_, sym, _∙_}
 use mathlib.Core.Bool.{true}
 use mathlib.Core.List.{List}
+use mathlib.Core.Logic.{⊎-elim}
 use native.Mathlib.Omega.{arith}
 use borrow.Author.Needs.{needs}
+use borrow.Author.Tests.{not-true, not-false}
 use lib.ListN.{length, getD, drop}
-use Rattle.call_line.specs.Column.{asciiZero, isDigit, more, digitsOf}
-use Rattle.call_line.proofs.Reading.{no-digits, zero-alone, leading-zero, no-leading-zero, digit-bounds, more-end, more-over, more-on}
+use Rattle.call_line.specs.Column.{asciiZero, asciiNine, isDigit, more, digitsOf}
+use Rattle.call_line.proofs.Reading.{no-digits, leading-zero, one-digit, no-leading-zero, digit-bounds, more-end, more-over, more-on, no-digit}
 use Rattle.call_line.proofs.read_number.Statement.{statement}
 use Rattle.call_line.proofs.read_number.Tie as tie
 
-abbrev Inv-loop : tie.InvT-loop
-Inv-loop digits value₀ i₀ value i =
-    (i ≤ length digits) × (digitsOf digits ≡ more value (drop i digits)) × (value < 2 ^ 64)
+abbrev S : tie.Joined3 → List ℕ
+S j = j .before .before .before .before .before .before .args .digits .now
 
-abbrev μ-loop : tie.MeasureT-loop
-μ-loop digits value₀ i₀ value i = length digits - i
+abbrev tens : tie.Joined3 → ℕ
+tens j = j .before .before .before .before .before .before .args .tens
 
-abbrev S : tie.At-loop Inv-loop μ-loop → List ℕ
-S l = l .before .before .before .before .args .digits .now
+abbrev last : tie.Joined3 → ℕ
+last j = length (S j) - 1
 
--- the byte that a turn reads is a digit
-digit :
-    (l : tie.At-loop Inv-loop μ-loop) → l .loop .i < length (S l)
-    → isDigit (getD (S l) (l .loop .i) 0) ≡ true
-digit l h = l .before .before .before .before .pre (l .loop .i) h
+-- the last byte is a digit
+digit : (j : tie.Joined3) → isDigit (getD (S j) (last j) 0) ≡ true
+digit j = sym (j .before .before .is-digit .ensures) ∙ not-false _ (j .before .if2 .left)
 
-returns : tie.Need-returns Inv-loop μ-loop
+bounds :
+    (j : tie.Joined3) → (asciiZero ≤ getD (S j) (last j) 0) × (getD (S j) (last j) 0 ≤ asciiNine)
+bounds j = digit-bounds _ (digit j)
+
+-- without a leading zero, the digits say what `tens` and the last do
+says : (j : tie.Joined3) → digitsOf (S j) ≡ more (tens j) (drop (last j) (S j))
+says j =
+    let n = j .before .before .before .before .if1 .left in
+    ⊎-elim (λ w. no-leading-zero (S j) n (w .2 .left)) (λ w. one-digit (S j) (omega (arith, n))) (j .if3 .came)
+    ∙ j .before .before .before .before .before .before .pre
+
+returns : tie.Need-returns
 returns c = sym (no-digits _ (c .if1 .taken))
 
-shared-slice-read-if2 : tie.Need-shared-slice-read-if2 Inv-loop μ-loop
-shared-slice-read-if2 c = search needs
+sub-last : tie.Need-sub-last
+sub-last c = search needs
 
-returns-2 : tie.Need-returns-2 Inv-loop μ-loop
-returns-2 c = sym (zero-alone _ (c .before .if2 .taken) (c .if3 .taken))
+shared-slice-read-is-digit : tie.Need-shared-slice-read-is-digit
+shared-slice-read-is-digit c = search needs
 
-returns-3 : tie.Need-returns-3 Inv-loop μ-loop
-returns-3 c = sym (leading-zero _ (c .before .if2 .taken) (c .before .before .before .if1 .left) (c .if3 .left))
+is-digit-requires : tie.Need-is-digit-requires
+is-digit-requires c κs = search needs
 
-loop-holds : tie.Need-loop-holds Inv-loop μ-loop
-loop-holds c = (omega arith, no-leading-zero _ (c .before .before .if1 .left) (c .if2 .left), omega arith)
+returns-2 : tie.Need-returns-2
+returns-2 c = sym (no-digit _ _ (omega arith) (sym (c .before .is-digit .ensures) ∙ not-true _ (c .if2 .taken)))
 
-shared-slice-read-byte : tie.Need-shared-slice-read-byte Inv-loop μ-loop
-shared-slice-read-byte c = search needs
+shared-slice-read-if4 : tie.Need-shared-slice-read-if4
+shared-slice-read-if4 c = search needs
 
-sub-digit : tie.Need-sub-digit Inv-loop μ-loop
-sub-digit c = omega (arith, digit-bounds _ (digit (c .before .before) (c .before .loop-test .taken)))
+returns-3 : tie.Need-returns-3
+returns-3 c = sym (leading-zero _ (c .if4 .taken) (omega arith))
 
-cast-digit : tie.Need-cast-digit Inv-loop μ-loop
-cast-digit c = omega (arith, digit-bounds _ (digit (c .before .before) (c .before .loop-test .taken)))
+shared-slice-read-digit : tie.Need-shared-slice-read-digit
+shared-slice-read-digit c = search needs
 
-sub-if4 : tie.Need-sub-if4 Inv-loop μ-loop
-sub-if4 c = omega (arith, digit-bounds _ (digit (c .before .before) (c .before .loop-test .taken)))
+sub-digit : tie.Need-sub-digit
+sub-digit c = omega (arith, bounds (c .before))
 
-returns-4 : tie.Need-returns-4 Inv-loop μ-loop
+cast-digit : tie.Need-cast-digit
+cast-digit c = omega (arith, bounds (c .before))
+
+sub-if5 : tie.Need-sub-if5
+sub-if5 c = omega (arith, bounds (c .before))
+
+returns-4 : tie.Need-returns-4
 returns-4 c =
-    let l = c .before .before .before in
-    let h = c .before .before .loop-test .taken in
-    let d = digit l h in
-    sym (l .loop .inv .1 ∙ more-over (S l) (l .loop .i) (l .loop .value) h d (omega (arith, digit-bounds _ d)))
+    let j = c .before .before in
+    sym (says j ∙ more-over (S j) (last j) (tens j) (omega arith) (digit j) (omega (arith, bounds j)))
 
-mul-value : tie.Need-mul-value Inv-loop μ-loop
-mul-value c = search needs
+mul-t15 : tie.Need-mul-t15
+mul-t15 c = search needs
 
-add-value : tie.Need-add-value Inv-loop μ-loop
-add-value c = omega (arith, digit-bounds _ (digit (c .before .before .before) (c .before .before .loop-test .taken)))
+add-t16 : tie.Need-add-t16
+add-t16 c = omega (arith, bounds (c .before .before))
 
-add-i : tie.Need-add-i Inv-loop μ-loop
-add-i c = search needs
-
-loop-less : tie.Need-loop-less Inv-loop μ-loop
-loop-less c = search needs
-
-loop-again : tie.Need-loop-again Inv-loop μ-loop
-loop-again c =
-    let l = c .before .before .before in
-    let h = c .before .before .loop-test .taken in
-    let d = digit l h in
-    let fits : l .loop .value * 10 + (getD (S l) (l .loop .i) 0 - asciiZero) < 2 ^ 64 = omega (arith, digit-bounds _ d) in
-    (omega arith, l .loop .inv .1 ∙ more-on (S l) (l .loop .i) (l .loop .value) h d fits, fits)
-
-returns-5 : tie.Need-returns-5 Inv-loop μ-loop
-returns-5 c = sym (c .before .loop .inv .1 ∙ more-end (S (c .before)) (c .before .loop .i) (c .before .loop .value) (c .loop-test .left))
+returns-5 : tie.Need-returns-5
+returns-5 c =
+    let j = c .before .before in
+    sym
+    (says j
+    ∙ more-on (S j) (last j) (tens j) (omega arith) (digit j) (omega (arith, bounds j))
+    ∙ more-end (S j) (last j + 1) _ (omega arith))
 
 pub read-number-spec : {M : Type 1} → statement M
 read-number-spec =
     tie.close
     (tie.spec
-    Inv-loop
-    μ-loop
     returns
-    shared-slice-read-if2
+    sub-last
+    shared-slice-read-is-digit
+    is-digit-requires
     returns-2
+    shared-slice-read-if4
     returns-3
-    loop-holds
-    shared-slice-read-byte
+    shared-slice-read-digit
     sub-digit
     cast-digit
-    sub-if4
+    sub-if5
     returns-4
-    mul-value
-    add-value
-    add-i
-    loop-less
-    loop-again
+    mul-t15
+    add-t16
     returns-5)

@@ -1,162 +1,115 @@
-use borrow.Author.Needs.{needs}
-use Rattle.call_list.specs.Feed.{rowWidth}
-use Rattle.call_list.proofs.Feeding.{Head, here, no-line, line-more, one-line, all-read}
-use Rattle.call_list.proofs.Turning.{loudly, quietly}
-use lib.ListN.{length}
+-- `feed_all` meets its contract: a turn answers the line that ends next, and the lines that stand whole after it. Assumes nothing.
+use Prim.Native.Nat.{ℕ, _+_, _-_}
+use mathlib.Core.Path.{_≡_, refl, sym, ap, _∙_}
 use mathlib.Core.List.{List, []}
 use native.Mathlib.Omega.{arith}
-use Prim.Native.Nat.{ℕ, _+_, _-_, _*_, _/_, _≤_, _<_}
-use mathlib.Core.Path.{_≡_, refl, sym, ap, _∙_}
+use borrow.Author.Needs.{needs}
+use lib.ListN.{length}
+use lib.Seq.{length-take-le}
+use Rattle.call_list.specs.Feed.{rowWidth, blank, runs}
+use Rattle.call_list.specs.Pieces.{here, At}
+use Rattle.call_list.proofs.Laying.{length-text}
+use Rattle.call_list.proofs.Feeding.{Kept, kept-line, row-fits, one-line, no-line, line-more, line-within, line-run, go-on, all-read}
 use Rattle.call_list.proofs.feed_all.Statement.{statement}
 use Rattle.call_list.proofs.feed_all.Tie as tie
 use Rattle.call_list.proofs.feed_all.Reads as reads
 use Rattle.call_list.proofs.feed_all.Lts as lts
-use Rattle.call_list.proofs.called.Reads as called-reads
-use Rattle.call_list.proofs.next_line.Reads as next-line-reads
+use Rattle.call_list.proofs.answer_line.Reads as answer-line-reads
 use Rattle.call_list.proofs.put_row.Reads as put-row-reads
-use Rattle.call_list.proofs.quiet_line.Reads as quiet-line-reads
+use Rattle.call_list.proofs.read_on.Reads as read-on-reads
 use Rattle.call_list.proofs.text.Reads as text-reads
+use Rattle.call_list.proofs.whole_lines.Reads as whole-lines-reads
 
 abbrev Inv-loop : tie.InvT-loop
-Inv-loop times₀ sizes₀ flags₀ chunk out₀ line₀ len₀ session₀ row₀ w₀ i₀ times sizes flags out line len session row w i =
-    Head chunk out₀ (here line₀ len₀ session₀ times₀ sizes₀ flags₀ []) times sizes flags out line len session row w i
+Inv-loop times₀ sizes₀ flags₀ chunk out₀ line₀ len₀ session₀ w₀ i₀ times sizes flags out line len session w i =
+    At chunk out₀ (runs (here line₀ len₀ session₀ times₀ sizes₀ flags₀ []) chunk) times sizes flags out line len session w i
 
 abbrev μ-loop : tie.MeasureT-loop
-μ-loop times₀ sizes₀ flags₀ chunk out₀ line₀ len₀ session₀ row₀ w₀ i₀ times sizes flags out line len session row w i =
+μ-loop times₀ sizes₀ flags₀ chunk out₀ line₀ len₀ session₀ w₀ i₀ times sizes flags out line len session w i =
     length chunk - i
 
--- src/lib.rt:533:9
-text-requires : tie.Need-text-requires Inv-loop μ-loop
-text-requires c κs = search needs
-
--- src/lib.rt:536:5
 loop-holds : tie.Need-loop-holds Inv-loop μ-loop
 loop-holds c =
     record {
       read = omega arith;
-      short = c .before .before .before .before .before .before .pre .0;
-      places = search needs;
+      short = c .before .before .before .before .pre .0;
+      whole = search needs;
       out-kept = refl;
       room = omega arith;
       rest = refl;
-      text = c .text .ensures;
       same = refl;
     }
 
--- src/lib.rt:537:13
-next-line-requires : tie.Need-next-line-requires Inv-loop μ-loop
-next-line-requires c κs = (c .before .loop .inv .short, c .before .loop .inv .read)
+read-on-requires : tie.Need-read-on-requires Inv-loop μ-loop
+read-on-requires c κs = (c .before .loop .inv .short, c .before .loop .inv .read)
 
--- src/lib.rt:543:25
-enum-known-said : tie.Need-enum-known-said Inv-loop μ-loop
-enum-known-said c = search needs
+-- the line that ended
+kept : (c : tie.Then1 Inv-loop μ-loop) → Kept (c .before .before .read-on .result .line) (c .before .before .read-on .result .len)
+kept c = kept-line (c .before .before .before .before .before .before .before .before .before .args .chunk .now) (c .before .before .before .before .before .before .before .before .before .args .out .now) _ (c .before .before .before .before .loop .times) (c .before .before .before .before .loop .sizes) (c .before .before .before .before .loop .flags) (c .before .before .before .before .loop .out) (c .before .before .before .before .loop .line) (c .before .before .before .before .loop .len) (c .before .before .before .before .loop .session) (c .before .before .before .before .loop .w) (c .before .before .before .before .loop .i) (c .before .before .before .before .loop .inv) (c .before .before .before .loop-test .taken) (c .before .before .before .before .before .before .before .before .before .pre .1) (c .before .before .read-on .result) (c .before .before .read-on .ensures)
 
--- src/lib.rt:545:21
-quiet-line-requires : tie.Need-quiet-line-requires Inv-loop μ-loop
-quiet-line-requires c κs = search needs
+array-share-prefix-line : tie.Need-array-share-prefix-line Inv-loop μ-loop
+array-share-prefix-line c =
+    let k = kept (c .before .before .before) in
+    omega (arith, k .short, k .whole)
 
--- src/lib.rt:548:25
-called-requires : tie.Need-called-requires Inv-loop μ-loop
-called-requires c κs = search needs
+slice-aggregate-answer-line : tie.Need-slice-aggregate-answer-line Inv-loop μ-loop
+slice-aggregate-answer-line c = sym (length-take-le _ _ (omega (arith, kept (c .before .before .before .before) .short, kept (c .before .before .before .before) .whole)))
 
--- src/lib.rt:552:21
-text-requires-2 : tie.Need-text-requires-2 Inv-loop μ-loop
-text-requires-2 c κs = search needs
+answer-line-requires : tie.Need-answer-line-requires Inv-loop μ-loop
+answer-line-requires c κs = search needs
 
--- src/lib.rt:553:21
+text-requires : tie.Need-text-requires Inv-loop μ-loop
+text-requires c κs = search needs
+
+slice-aggregate-put-row : tie.Need-slice-aggregate-put-row Inv-loop μ-loop
+slice-aggregate-put-row c = sym (ap length (c .before .text .ensures) ∙ length-text _)
+
 put-row-requires : tie.Need-put-row-requires Inv-loop μ-loop
-put-row-requires c κs = omega (arith, c .before .before .before .before .before .before .before .before .before .before .before .before .before .before .before .before .before .before .before .before .loop .inv .room, c .before .before .before .before .before .before .before .before .before .before .before .before .before .before .before .before .before .before .before .before .loop .inv .out-kept, c .before .before .before .before .before .before .before .before .before .before .before .before .before .before .before .before .before .before .before .loop-test .taken, c .before .before .before .before .before .before .before .before .before .before .before .before .before .before .before .before .before .before .before .before .before .before .before .before .before .before .before .pre .1)
+put-row-requires c κs = (ap length (c .before .before .text .ensures) ∙ length-text _, row-fits (c .before .before .before .before .before .before .before .before .before .before .before .before .before .before .before .before .before .before .before .args .chunk .now) (c .before .before .before .before .before .before .before .before .before .before .before .before .before .before .before .before .before .before .before .args .out .now) _ (c .before .before .before .before .before .before .before .before .before .before .before .before .before .before .loop .times) (c .before .before .before .before .before .before .before .before .before .before .before .before .before .before .loop .sizes) (c .before .before .before .before .before .before .before .before .before .before .before .before .before .before .loop .flags) (c .before .before .before .before .before .before .before .before .before .before .before .before .before .before .loop .out) (c .before .before .before .before .before .before .before .before .before .before .before .before .before .before .loop .line) (c .before .before .before .before .before .before .before .before .before .before .before .before .before .before .loop .len) (c .before .before .before .before .before .before .before .before .before .before .before .before .before .before .loop .session) (c .before .before .before .before .before .before .before .before .before .before .before .before .before .before .loop .w) (c .before .before .before .before .before .before .before .before .before .before .before .before .before .before .loop .i) (c .before .before .before .before .before .before .before .before .before .before .before .before .before .before .loop .inv) (c .before .before .before .before .before .before .before .before .before .before .before .before .before .loop-test .taken) (c .before .before .before .before .before .before .before .before .before .before .before .before .before .before .before .before .before .before .before .pre .1))
 
--- src/lib.rt:554:21
-add-w : tie.Need-add-w Inv-loop μ-loop
-add-w c =
-    let l = c .before .before .before .before .before .before .before .before .before .before .before .before .before .before .before .before .before .before .before .before .before .before .before .loop in
-    let s = c .before .before .before .before .before .before .before .before .before .before .before .before .before .before .before .before .before .before .before .before .before .before .before .before .before .before .before .before .before .before in
-    let g : l .w + rowWidth ≤ length (s .args .out .now) = omega (arith, c .before .before .before .before .before .before .before .before .before .before .before .before .before .before .before .before .before .before .before .before .before .before .before .loop .inv .room, c .before .before .before .before .before .before .before .before .before .before .before .before .before .before .before .before .before .before .before .before .before .before .before .loop .inv .out-kept, c .before .before .before .before .before .before .before .before .before .before .before .before .before .before .before .before .before .before .before .before .before .before .loop-test .taken, c .before .before .before .before .before .before .before .before .before .before .before .before .before .before .before .before .before .before .before .before .before .before .before .before .before .before .before .before .before .before .pre .1) in
-    let y = s .good in
-    search needs
+-- and is answered
+turned :
+    (c : tie.After-put-row Inv-loop μ-loop)
+    → At (c .before .before .before .before .before .before .before .before .before .before .before .before .before .before .before .before .before .before .before .before .args .chunk .now) (c .before .before .before .before .before .before .before .before .before .before .before .before .before .before .before .before .before .before .before .before .args .out .now)
+    (runs (here (c .before .before .before .before .before .before .before .before .before .before .before .before .before .before .before .before .before .before .before .before .args .state .line) (c .before .before .before .before .before .before .before .before .before .before .before .before .before .before .before .before .before .before .before .before .args .state .len) (c .before .before .before .before .before .before .before .before .before .before .before .before .before .before .before .before .before .before .before .before .args .state .session) (c .before .before .before .before .before .before .before .before .before .before .before .before .before .before .before .before .before .before .before .before .args .times .now) (c .before .before .before .before .before .before .before .before .before .before .before .before .before .before .before .before .before .before .before .before .args .sizes .now) (c .before .before .before .before .before .before .before .before .before .before .before .before .before .before .before .before .before .before .before .before .args .flags .now) []) (c .before .before .before .before .before .before .before .before .before .before .before .before .before .before .before .before .before .before .before .before .args .chunk .now))
+    (c .before .before .before .before .before .before .answer-line .last .1 .0) (c .before .before .before .before .before .before .answer-line .last .1 .1 .0) (c .before .before .before .before .before .before .answer-line .last .1 .1 .1 .0) (c .put-row .last .1 .1 .0) blank 0 (c .before .before .before .before .before .before .answer-line .result .session) (c .before .before .before .before .before .before .before .before .before .before .before .before .before .before .before .loop .w + rowWidth) (c .before .before .before .before .before .before .before .before .before .before .before .before .before .read-on .result .read)
+turned c =
+    one-line (c .before .before .before .before .before .before .before .before .before .before .before .before .before .before .before .before .before .before .before .before .args .chunk .now) (c .before .before .before .before .before .before .before .before .before .before .before .before .before .before .before .before .before .before .before .before .args .out .now) _ (c .before .before .before .before .before .before .before .before .before .before .before .before .before .before .before .loop .times) (c .before .before .before .before .before .before .before .before .before .before .before .before .before .before .before .loop .sizes) (c .before .before .before .before .before .before .before .before .before .before .before .before .before .before .before .loop .flags) (c .before .before .before .before .before .before .before .before .before .before .before .before .before .before .before .loop .out) (c .before .before .before .before .before .before .before .before .before .before .before .before .before .before .before .loop .line) (c .before .before .before .before .before .before .before .before .before .before .before .before .before .before .before .loop .len) (c .before .before .before .before .before .before .before .before .before .before .before .before .before .before .before .loop .session) (c .before .before .before .before .before .before .before .before .before .before .before .before .before .before .before .loop .w) (c .before .before .before .before .before .before .before .before .before .before .before .before .before .before .before .loop .i) (c .before .before .before .before .before .before .before .before .before .before .before .before .before .before .before .loop .inv) (c .before .before .before .before .before .before .before .before .before .before .before .before .before .before .loop-test .taken) (c .before .before .before .before .before .before .before .before .before .before .before .before .before .before .before .before .before .before .before .before .pre .1) _ _ (line-more (c .before .before .before .before .before .before .before .before .before .before .before .before .before .before .before .before .before .before .before .before .args .chunk .now) (c .before .before .before .before .before .before .before .before .before .before .before .before .before .before .before .before .before .before .before .before .args .out .now) _ (c .before .before .before .before .before .before .before .before .before .before .before .before .before .before .before .loop .times) (c .before .before .before .before .before .before .before .before .before .before .before .before .before .before .before .loop .sizes) (c .before .before .before .before .before .before .before .before .before .before .before .before .before .before .before .loop .flags) (c .before .before .before .before .before .before .before .before .before .before .before .before .before .before .before .loop .out) (c .before .before .before .before .before .before .before .before .before .before .before .before .before .before .before .loop .line) (c .before .before .before .before .before .before .before .before .before .before .before .before .before .before .before .loop .len) (c .before .before .before .before .before .before .before .before .before .before .before .before .before .before .before .loop .session) (c .before .before .before .before .before .before .before .before .before .before .before .before .before .before .before .loop .w) (c .before .before .before .before .before .before .before .before .before .before .before .before .before .before .before .loop .i) (c .before .before .before .before .before .before .before .before .before .before .before .before .before .before .before .loop .inv) (c .before .before .before .before .before .before .before .before .before .before .before .before .before .before .loop-test .taken) (c .before .before .before .before .before .before .before .before .before .before .before .before .before .before .before .before .before .before .before .before .pre .1) (c .before .before .before .before .before .before .before .before .before .before .before .before .before .read-on .result) (c .before .before .before .before .before .before .before .before .before .before .before .before .before .read-on .ensures) (c .before .before .before .before .before .before .before .before .before .before .before .if1 .taken)) (line-within (c .before .before .before .before .before .before .before .before .before .before .before .before .before .before .before .before .before .before .before .before .args .chunk .now) (c .before .before .before .before .before .before .before .before .before .before .before .before .before .before .before .before .before .before .before .before .args .out .now) _ (c .before .before .before .before .before .before .before .before .before .before .before .before .before .before .before .loop .times) (c .before .before .before .before .before .before .before .before .before .before .before .before .before .before .before .loop .sizes) (c .before .before .before .before .before .before .before .before .before .before .before .before .before .before .before .loop .flags) (c .before .before .before .before .before .before .before .before .before .before .before .before .before .before .before .loop .out) (c .before .before .before .before .before .before .before .before .before .before .before .before .before .before .before .loop .line) (c .before .before .before .before .before .before .before .before .before .before .before .before .before .before .before .loop .len) (c .before .before .before .before .before .before .before .before .before .before .before .before .before .before .before .loop .session) (c .before .before .before .before .before .before .before .before .before .before .before .before .before .before .before .loop .w) (c .before .before .before .before .before .before .before .before .before .before .before .before .before .before .before .loop .i) (c .before .before .before .before .before .before .before .before .before .before .before .before .before .before .before .loop .inv) (c .before .before .before .before .before .before .before .before .before .before .before .before .before .before .loop-test .taken) (c .before .before .before .before .before .before .before .before .before .before .before .before .before .before .before .before .before .before .before .before .pre .1) (c .before .before .before .before .before .before .before .before .before .before .before .before .before .read-on .result) (c .before .before .before .before .before .before .before .before .before .before .before .before .before .read-on .ensures) (c .before .before .before .before .before .before .before .before .before .before .before .if1 .taken)) (line-run (c .before .before .before .before .before .before .before .before .before .before .before .before .before .before .before .before .before .before .before .before .args .chunk .now) (c .before .before .before .before .before .before .before .before .before .before .before .before .before .before .before .before .before .before .before .before .args .out .now) _ (c .before .before .before .before .before .before .before .before .before .before .before .before .before .before .before .loop .times) (c .before .before .before .before .before .before .before .before .before .before .before .before .before .before .before .loop .sizes) (c .before .before .before .before .before .before .before .before .before .before .before .before .before .before .before .loop .flags) (c .before .before .before .before .before .before .before .before .before .before .before .before .before .before .before .loop .out) (c .before .before .before .before .before .before .before .before .before .before .before .before .before .before .before .loop .line) (c .before .before .before .before .before .before .before .before .before .before .before .before .before .before .before .loop .len) (c .before .before .before .before .before .before .before .before .before .before .before .before .before .before .before .loop .session) (c .before .before .before .before .before .before .before .before .before .before .before .before .before .before .before .loop .w) (c .before .before .before .before .before .before .before .before .before .before .before .before .before .before .before .loop .i) (c .before .before .before .before .before .before .before .before .before .before .before .before .before .before .before .loop .inv) (c .before .before .before .before .before .before .before .before .before .before .before .before .before .before .loop-test .taken) (c .before .before .before .before .before .before .before .before .before .before .before .before .before .before .before .before .before .before .before .before .pre .1) (c .before .before .before .before .before .before .before .before .before .before .before .before .before .read-on .result) (c .before .before .before .before .before .before .before .before .before .before .before .before .before .read-on .ensures) (c .before .before .before .before .before .before .before .before .before .before .before .if1 .taken))
+    (c .before .before .before .before .before .before .answer-line .result) _ _ _ _ _ (c .before .before .before .before .before .before .answer-line .ensures) (c .before .before .before .text .ensures) (c .put-row .ensures)
 
--- src/lib.rt:536:5
+add-whole-lines : tie.Need-add-whole-lines Inv-loop μ-loop
+add-whole-lines c =
+    let y = c .before .before .before .before .before .before .before .before .before .before .before .before .before .before .before .before .before .before .before .before .before .before .before .before .before .before .before .good in
+    omega (arith, c .before .before .before .before .before .before .before .before .before .before .before .before .before .before .before .before .before .before .before .before .before .before .loop .inv .out-kept, row-fits (c .before .before .before .before .before .before .before .before .before .before .before .before .before .before .before .before .before .before .before .before .before .before .before .before .before .before .before .args .chunk .now) (c .before .before .before .before .before .before .before .before .before .before .before .before .before .before .before .before .before .before .before .before .before .before .before .before .before .before .before .args .out .now) _ (c .before .before .before .before .before .before .before .before .before .before .before .before .before .before .before .before .before .before .before .before .before .before .loop .times) (c .before .before .before .before .before .before .before .before .before .before .before .before .before .before .before .before .before .before .before .before .before .before .loop .sizes) (c .before .before .before .before .before .before .before .before .before .before .before .before .before .before .before .before .before .before .before .before .before .before .loop .flags) (c .before .before .before .before .before .before .before .before .before .before .before .before .before .before .before .before .before .before .before .before .before .before .loop .out) (c .before .before .before .before .before .before .before .before .before .before .before .before .before .before .before .before .before .before .before .before .before .before .loop .line) (c .before .before .before .before .before .before .before .before .before .before .before .before .before .before .before .before .before .before .before .before .before .before .loop .len) (c .before .before .before .before .before .before .before .before .before .before .before .before .before .before .before .before .before .before .before .before .before .before .loop .session) (c .before .before .before .before .before .before .before .before .before .before .before .before .before .before .before .before .before .before .before .before .before .before .loop .w) (c .before .before .before .before .before .before .before .before .before .before .before .before .before .before .before .before .before .before .before .before .before .before .loop .i) (c .before .before .before .before .before .before .before .before .before .before .before .before .before .before .before .before .before .before .before .before .before .before .loop .inv) (c .before .before .before .before .before .before .before .before .before .before .before .before .before .before .before .before .before .before .before .before .before .loop-test .taken) (c .before .before .before .before .before .before .before .before .before .before .before .before .before .before .before .before .before .before .before .before .before .before .before .before .before .before .before .pre .1))
+
+whole-lines-requires : tie.Need-whole-lines-requires Inv-loop μ-loop
+whole-lines-requires c κs =
+    let t = turned (c .before .before .before .before .before .before .before) in (t .read, t .room, omega (arith, t .out-kept, c .before .before .before .before .before .before .before .before .before .before .before .before .before .before .before .before .before .before .before .before .before .before .before .before .before .before .before .pre .1))
+
 loop-less : tie.Need-loop-less Inv-loop μ-loop
 loop-less c =
-    let l = c .before .before .before .before .before .before .before .before .before .before .before .before .before .before .before .before .before .before .before .before .before .before .before .loop in
-    let n = c .before .before .before .before .before .before .before .before .before .before .before .before .before .before .before .before .before .before .before .before .before .next-line in
-    let g = line-more (c .before .before .before .before .before .before .before .before .before .before .before .before .before .before .before .before .before .before .before .before .before .before .before .before .before .before .before .before .before .before .args .chunk .now) _ _ (l .times) (l .sizes) (l .flags) (l .out) (l .line) (l .len) (l .session) (l .row) (l .w) (l .i) (l .inv) (c .before .before .before .before .before .before .before .before .before .before .before .before .before .before .before .before .before .before .before .before .before .before .loop-test .taken) (n .result) (n .ensures) _ (c .before .before .before .before .before .before .before .before .before .before .before .before .before .before .before .before .before .before .said .given .1) in
-    omega (arith, g, c .before .before .before .before .before .before .before .before .before .before .before .before .before .before .before .before .before .before .before .before .before .before .loop-test .taken)
+    omega (arith, c .before .before .before .whole-lines .ensures .0, line-more (c .before .before .before .before .before .before .before .before .before .before .before .before .before .before .before .before .before .before .before .before .before .before .before .before .before .before .before .before .before .before .before .args .chunk .now) (c .before .before .before .before .before .before .before .before .before .before .before .before .before .before .before .before .before .before .before .before .before .before .before .before .before .before .before .before .before .before .before .args .out .now) _ (c .before .before .before .before .before .before .before .before .before .before .before .before .before .before .before .before .before .before .before .before .before .before .before .before .before .before .loop .times) (c .before .before .before .before .before .before .before .before .before .before .before .before .before .before .before .before .before .before .before .before .before .before .before .before .before .before .loop .sizes) (c .before .before .before .before .before .before .before .before .before .before .before .before .before .before .before .before .before .before .before .before .before .before .before .before .before .before .loop .flags) (c .before .before .before .before .before .before .before .before .before .before .before .before .before .before .before .before .before .before .before .before .before .before .before .before .before .before .loop .out) (c .before .before .before .before .before .before .before .before .before .before .before .before .before .before .before .before .before .before .before .before .before .before .before .before .before .before .loop .line) (c .before .before .before .before .before .before .before .before .before .before .before .before .before .before .before .before .before .before .before .before .before .before .before .before .before .before .loop .len) (c .before .before .before .before .before .before .before .before .before .before .before .before .before .before .before .before .before .before .before .before .before .before .before .before .before .before .loop .session) (c .before .before .before .before .before .before .before .before .before .before .before .before .before .before .before .before .before .before .before .before .before .before .before .before .before .before .loop .w) (c .before .before .before .before .before .before .before .before .before .before .before .before .before .before .before .before .before .before .before .before .before .before .before .before .before .before .loop .i) (c .before .before .before .before .before .before .before .before .before .before .before .before .before .before .before .before .before .before .before .before .before .before .before .before .before .before .loop .inv) (c .before .before .before .before .before .before .before .before .before .before .before .before .before .before .before .before .before .before .before .before .before .before .before .before .before .loop-test .taken) (c .before .before .before .before .before .before .before .before .before .before .before .before .before .before .before .before .before .before .before .before .before .before .before .before .before .before .before .before .before .before .before .pre .1) (c .before .before .before .before .before .before .before .before .before .before .before .before .before .before .before .before .before .before .before .before .before .before .before .before .read-on .result) (c .before .before .before .before .before .before .before .before .before .before .before .before .before .before .before .before .before .before .before .before .before .before .before .before .read-on .ensures) (c .before .before .before .before .before .before .before .before .before .before .before .before .before .before .before .before .before .before .before .before .before .before .if1 .taken), c .before .before .before .before .before .before .before .before .before .before .before .before .before .before .before .before .before .before .before .before .before .before .before .before .before .loop-test .taken)
 
--- src/lib.rt:536:5
 loop-again : tie.Need-loop-again Inv-loop μ-loop
 loop-again c =
-    let l = c .before .before .before .before .before .before .before .before .before .before .before .before .before .before .before .before .before .before .before .before .before .before .before .loop in
-    let n = c .before .before .before .before .before .before .before .before .before .before .before .before .before .before .before .before .before .before .before .before .before .next-line in
-    let k = c .before .before .before .before .before .before .before .before .before .before .before .before .before .quiet-line in
-    one-line (c .before .before .before .before .before .before .before .before .before .before .before .before .before .before .before .before .before .before .before .before .before .before .before .before .before .before .before .before .before .before .args .chunk .now) _ _ (l .times) (l .sizes) (l .flags) (l .out) (l .line) (l .len) (l .session) (l .row) (l .w) (l .i) (l .inv) (c .before .before .before .before .before .before .before .before .before .before .before .before .before .before .before .before .before .before .before .before .before .before .loop-test .taken) (n .result) (n .ensures) _ (c .before .before .before .before .before .before .before .before .before .before .before .before .before .before .before .before .before .before .said .given .1)
-    (c .before .before .before .before .before .before .before .before .called .result) _ _ _ _ _ (c .before .before .before .before .before .before .before .before .before .before .before .before .before .before .before .before .before .before .before .before .before .before .before .before .before .before .before .before .before .before .pre .1)
-    (rw (c .before .before .before .before .before .before .before .before .called .ensures) (loudly (l .session) (l .times) (l .sizes) (l .flags) _ (k .result) _ _ _ (k .ensures) (c .before .before .before .before .before .before .before .before .before .before .before .before .if1 .taken)))
-    (c .before .before .before .before .text2 .ensures) (c .before .before .put-row .ensures)
+    let w = c .before .before .before .whole-lines .ensures in
+    go-on _ _ _ _ _ _ _ _ _ _ _ _ _ _ _ _ _ (turned (c .before .before .before .before .before .before .before .before .before .before .before)) (w .1) (w .2)
 
--- src/lib.rt:557:21
-put-row-requires-2 : tie.Need-put-row-requires-2 Inv-loop μ-loop
-put-row-requires-2 c κs = search needs
-
--- src/lib.rt:558:21
-add-w-2 : tie.Need-add-w-2 Inv-loop μ-loop
-add-w-2 c =
-    let l = c .before .before .before .before .before .before .before .before .before .before .before .before .before .before .before .loop in
-    let s = c .before .before .before .before .before .before .before .before .before .before .before .before .before .before .before .before .before .before .before .before .before .before in
-    let g : l .w + rowWidth ≤ length (s .args .out .now) = omega (arith, c .before .before .before .before .before .before .before .before .before .before .before .before .before .before .before .loop .inv .room, c .before .before .before .before .before .before .before .before .before .before .before .before .before .before .before .loop .inv .out-kept, c .before .before .before .before .before .before .before .before .before .before .before .before .before .before .loop-test .taken, c .before .before .before .before .before .before .before .before .before .before .before .before .before .before .before .before .before .before .before .before .before .before .pre .1) in
-    let y = s .good in
-    search needs
-
--- src/lib.rt:536:5
 loop-less-2 : tie.Need-loop-less-2 Inv-loop μ-loop
-loop-less-2 c =
-    let l = c .before .before .before .before .before .before .before .before .before .before .before .before .before .before .before .loop in
-    let n = c .before .before .before .before .before .before .before .before .before .before .before .before .before .next-line in
-    let g = line-more (c .before .before .before .before .before .before .before .before .before .before .before .before .before .before .before .before .before .before .before .before .before .before .args .chunk .now) _ _ (l .times) (l .sizes) (l .flags) (l .out) (l .line) (l .len) (l .session) (l .row) (l .w) (l .i) (l .inv) (c .before .before .before .before .before .before .before .before .before .before .before .before .before .before .loop-test .taken) (n .result) (n .ensures) _ (c .before .before .before .before .before .before .before .before .before .before .said .given .1) in
-    omega (arith, g, c .before .before .before .before .before .before .before .before .before .before .before .before .before .before .loop-test .taken)
+loop-less-2 c = omega (arith, no-line (c .before .before .before .before .before .before .before .before .before .args .chunk .now) (c .before .before .before .before .before .before .before .before .before .args .out .now) _ (c .before .before .before .before .loop .times) (c .before .before .before .before .loop .sizes) (c .before .before .before .before .loop .flags) (c .before .before .before .before .loop .out) (c .before .before .before .before .loop .line) (c .before .before .before .before .loop .len) (c .before .before .before .before .loop .session) (c .before .before .before .before .loop .w) (c .before .before .before .before .loop .i) (c .before .before .before .before .loop .inv) (c .before .before .before .loop-test .taken) (c .before .before .before .before .before .before .before .before .before .pre .1) (c .before .before .read-on .result) (c .before .before .read-on .ensures) (c .if1 .left) .0, c .before .before .before .loop-test .taken)
 
--- src/lib.rt:536:5
 loop-again-2 : tie.Need-loop-again-2 Inv-loop μ-loop
-loop-again-2 c =
-    let l = c .before .before .before .before .before .before .before .before .before .before .before .before .before .before .before .loop in
-    let n = c .before .before .before .before .before .before .before .before .before .before .before .before .before .next-line in
-    let k = c .before .before .before .before .before .quiet-line in
-    let s = l .session in
-    one-line (c .before .before .before .before .before .before .before .before .before .before .before .before .before .before .before .before .before .before .before .before .before .before .args .chunk .now) _ _ (l .times) (l .sizes) (l .flags) (l .out) (l .line) (l .len) (l .session) (l .row) (l .w) (l .i) (l .inv) (c .before .before .before .before .before .before .before .before .before .before .before .before .before .before .loop-test .taken) (n .result) (n .ensures) _ (c .before .before .before .before .before .before .before .before .before .before .said .given .1)
-    (record { session = record { controller = s .controller; reading = s .reading; queued = k .result .queued }; answer = record { refusal = k .result .refusal; reading = s .reading } })
-    _ _ _ _ _ (c .before .before .before .before .before .before .before .before .before .before .before .before .before .before .before .before .before .before .before .before .before .before .pre .1)
-    (quietly (l .session) (l .times) (l .sizes) (l .flags) _ (k .result) _ _ _ (k .ensures) (c .before .before .before .before .if1 .left))
-    (l .inv .text) (c .before .before .put-row2 .ensures)
+loop-again-2 c = no-line (c .before .before .before .before .before .before .before .before .before .args .chunk .now) (c .before .before .before .before .before .before .before .before .before .args .out .now) _ (c .before .before .before .before .loop .times) (c .before .before .before .before .loop .sizes) (c .before .before .before .before .loop .flags) (c .before .before .before .before .loop .out) (c .before .before .before .before .loop .line) (c .before .before .before .before .loop .len) (c .before .before .before .before .loop .session) (c .before .before .before .before .loop .w) (c .before .before .before .before .loop .i) (c .before .before .before .before .loop .inv) (c .before .before .before .loop-test .taken) (c .before .before .before .before .before .before .before .before .before .pre .1) (c .before .before .read-on .result) (c .before .before .read-on .ensures) (c .if1 .left) .1
 
-enum-told : tie.Need-enum-told Inv-loop μ-loop
-enum-told c = search needs
-
--- src/lib.rt:536:5
-loop-less-3 : tie.Need-loop-less-3 Inv-loop μ-loop
-loop-less-3 c =
-    let l = c .before .before .before .before .before .loop in
-    let n = c .before .before .before .next-line in
-    let g = no-line (c .before .before .before .before .before .before .before .before .before .before .before .before .args .chunk .now) _ _ (l .times) (l .sizes) (l .flags) (l .out) (l .line) (l .len) (l .session) (l .row) (l .w) (l .i) (l .inv) (c .before .before .before .before .loop-test .taken) (n .result) (n .ensures) (c .enum-told .given .1) .0 in
-    omega (arith, g, c .before .before .before .before .loop-test .taken)
-
--- src/lib.rt:536:5
-loop-again-3 : tie.Need-loop-again-3 Inv-loop μ-loop
-loop-again-3 c =
-    let l = c .before .before .before .before .before .loop in
-    let n = c .before .before .before .next-line in
-    no-line (c .before .before .before .before .before .before .before .before .before .before .before .before .args .chunk .now) _ _ (l .times) (l .sizes) (l .flags) (l .out) (l .line) (l .len) (l .session) (l .row) (l .w) (l .i) (l .inv) (c .before .before .before .before .loop-test .taken) (n .result) (n .ensures) (c .enum-told .given .1) .1
-
--- src/lib.rt:518:1
 same-length : tie.Need-same-length Inv-loop μ-loop
 same-length c = search needs
 
--- src/lib.rt:518:1
 returns : tie.Need-returns Inv-loop μ-loop
 returns c =
-    let l = c .before .loop in (
+    let l = c .before .loop in
+    let s = c .before .before .before .before .before .before in (
       refl,
-      all-read (c .before .before .before .before .before .before .before .before .args .chunk .now) _ _ (l .times) (l .sizes) (l .flags) (l .out) (l .line) (l .len) (l .session) (l .row) (l .w) (l .i) (l .inv) (c .loop-test .left) (c .before .before .before .before .before .before .before .before .pre .1),
+      all-read (s .args .chunk .now) _ _ (l .times) (l .sizes) (l .flags) (l .out) (l .line) (l .len) (l .session) (l .w) (l .i) (l .inv) (c .loop-test .left) (s .pre .1),
     )
 
 pub feed-all-spec : {M : Type 1} → statement M
@@ -165,23 +118,19 @@ feed-all-spec =
     (tie.spec
     Inv-loop
     μ-loop
-    text-requires
     loop-holds
-    next-line-requires
-    enum-known-said
-    quiet-line-requires
-    called-requires
-    text-requires-2
+    read-on-requires
+    array-share-prefix-line
+    slice-aggregate-answer-line
+    answer-line-requires
+    text-requires
+    slice-aggregate-put-row
     put-row-requires
-    add-w
+    add-whole-lines
+    whole-lines-requires
     loop-less
     loop-again
-    put-row-requires-2
-    add-w-2
     loop-less-2
     loop-again-2
-    enum-told
-    loop-less-3
-    loop-again-3
     same-length
     returns)

@@ -7,6 +7,7 @@ use lib.ListN.{length}
 use native.Mathlib.Omega.{arith}
 use Prim.Native.Nat.{ℕ, _+_, _-_, _*_, _/_, _≤_, _<_}
 use mathlib.Core.Path.{_≡_, refl, sym, ap, _∙_}
+use Rattle.call_list.proofs.Laying.{length-text}
 use Rattle.call_list.proofs.finish.Statement.{statement}
 use Rattle.call_list.proofs.finish.Tie as tie
 use Rattle.call_list.proofs.finish.Reads as reads
@@ -16,35 +17,29 @@ use Rattle.call_list.proofs.not_taken.Reads as not-taken-reads
 use Rattle.call_list.proofs.put_row.Reads as put-row-reads
 use Rattle.call_list.proofs.text.Reads as text-reads
 
--- src/lib.rt:607:9
 not-taken-requires : tie.Need-not-taken-requires
 not-taken-requires c κs = search needs
 
--- src/lib.rt:607:9
 returns : tie.Need-returns
 returns c =
     let a = c .before .before .before .before .args in
     rw (c .not-taken .ensures) (not-finished (a .state) (a .times .now) (a .sizes .now) (a .flags .now) (a .out .now) (long-no (a .state .len) 1 (length (a .out .now)) (c .before .if1 .taken)))
 
--- src/lib.rt:610:9
 not-taken-requires-2 : tie.Need-not-taken-requires-2
 not-taken-requires-2 c κs = search needs
 
--- src/lib.rt:610:9
 returns-2 : tie.Need-returns-2
 returns-2 c =
     let a = c .before .before .before .before .before .args in
     let g : length (a .out .now) / rowWidth < 1 = omega (arith, c .before .if2 .taken) in
     rw (c .not-taken2 .ensures) (not-finished (a .state) (a .times .now) (a .sizes .now) (a .flags .now) (a .out .now) (room-no (a .state .len) 1 (length (a .out .now)) (c .before .before .if1 .left) g))
 
--- src/lib.rt:613:9
 returns-3 : tie.Need-returns-3
 returns-3 c =
     let a = c .before .before .before .before .before .args in
     let g : 1 ≤ length (a .out .now) / rowWidth = omega (arith, c .before .if2 .left) in
     none-finished (a .state) (a .times .now) (a .sizes .now) (a .flags .now) (a .out .now) (room-yes (a .state .len) 1 (length (a .out .now)) (c .before .before .if1 .left) g) (c .if3 .taken)
 
--- src/lib.rt:620:58
 array-share-prefix-line : tie.Need-array-share-prefix-line
 array-share-prefix-line c =
     let a = c .before .before .before .before .before .before .before .before .before in
@@ -52,7 +47,6 @@ array-share-prefix-line c =
     let e : length (a .args .state .line) ≡ kept = search needs in
     omega (arith, c .before .before .before .before .before .before .if1 .left)
 
--- src/lib.rt:620:58
 slice-aggregate-answer-line : tie.Need-slice-aggregate-answer-line
 slice-aggregate-answer-line c =
     let a = c .before .before .before .before .before .before .before .before .before .before in
@@ -60,29 +54,27 @@ slice-aggregate-answer-line c =
     let e : length (a .args .state .line) ≡ kept = search needs in
     sym (length-take-le (a .args .state .len) (a .args .state .line) (omega (arith, c .before .before .before .before .before .before .before .if1 .left)))
 
--- src/lib.rt:620:9
 answer-line-requires : tie.Need-answer-line-requires
 answer-line-requires c κs = search needs
 
--- src/lib.rt:623:29
 text-requires : tie.Need-text-requires
 text-requires c κs = search needs
 
--- src/lib.rt:623:5
-put-row-requires : tie.Need-put-row-requires
-put-row-requires c κs = search needs
+slice-aggregate-put-row : tie.Need-slice-aggregate-put-row
+slice-aggregate-put-row c = sym (ap length (c .before .text .ensures) ∙ length-text _)
 
--- src/lib.rt:595:1
+put-row-requires : tie.Need-put-row-requires
+put-row-requires c κs = (ap length (c .before .before .text .ensures) ∙ length-text _, search needs)
+
 same-length : tie.Need-same-length
 same-length c = search needs
 
--- src/lib.rt:595:1
 returns-4 : tie.Need-returns-4
 unfolding rowOf
 returns-4 c =
-    let a = c .before .before .before .before .before .before .before .before .before .before .before .before .before .before .before .before .before .before .before .args in
-    let r : 1 ≤ length (a .out .now) / rowWidth = omega (arith, c .before .before .before .before .before .before .before .before .before .before .before .before .before .before .before .if2 .left) in
-    line-finished (a .state) (a .times .now) (a .sizes .now) (a .flags .now) (a .out .now) (c .before .before .before .before .before .before .before .before .answer-line .result) _ _ _ _ (room-yes (a .state .len) 1 (length (a .out .now)) (c .before .before .before .before .before .before .before .before .before .before .before .before .before .before .before .before .if1 .left) r) (c .before .before .before .before .before .before .before .before .before .before .before .before .before .before .if3 .left) (c .before .before .before .before .before .before .before .before .answer-line .ensures) (rw (← c .before .before .before .before .before .text .ensures) (c .before .before .before .put-row .ensures))
+    let a = c .before .before .before .before .before .before .before .before .before .before .before .before .before .before .before .before .before .before .before .before .args in
+    let r : 1 ≤ length (a .out .now) / rowWidth = omega (arith, c .before .before .before .before .before .before .before .before .before .before .before .before .before .before .before .before .if2 .left) in
+    line-finished (a .state) (a .times .now) (a .sizes .now) (a .flags .now) (a .out .now) (c .before .before .before .before .before .before .before .before .before .answer-line .result) _ _ _ _ (room-yes (a .state .len) 1 (length (a .out .now)) (c .before .before .before .before .before .before .before .before .before .before .before .before .before .before .before .before .before .if1 .left) r) (c .before .before .before .before .before .before .before .before .before .before .before .before .before .before .before .if3 .left) (c .before .before .before .before .before .before .before .before .before .answer-line .ensures) (rw (← c .before .before .before .before .before .before .text .ensures) (c .before .before .before .put-row .ensures))
 
 pub finish-spec : {M : Type 1} → statement M
 finish-spec =
@@ -97,6 +89,7 @@ finish-spec =
     slice-aggregate-answer-line
     answer-line-requires
     text-requires
+    slice-aggregate-put-row
     put-row-requires
     same-length
     returns-4)

@@ -18,84 +18,72 @@ use Rattle.call_list.proofs.put_row.Lts as lts
 use Rattle.call_list.proofs.put_column.Reads as put-column-reads
 
 abbrev Inv-loop : tie.InvT-loop
-Inv-loop refusal out₀ w text k₀ out k =
+Inv-loop refusal text out₀ w k₀ out k =
     (k ≤ 45) × (length text ≡ 45) × (length out ≡ length out₀) × (laid (w + 2) (take k text) out₀ ≡ out)
 
 abbrev μ-loop : tie.MeasureT-loop
-μ-loop refusal out₀ w text k₀ out k = 45 - k
+μ-loop refusal text out₀ w k₀ out k = 45 - k
 
--- src/lib.rt:373:24
 add-put-column : tie.Need-add-put-column Inv-loop μ-loop
 add-put-column c = search needs
 
--- src/lib.rt:373:5
 put-column-requires : tie.Need-put-column-requires Inv-loop μ-loop
 put-column-requires c κs = search needs
 
--- src/lib.rt:375:5
 loop-holds : tie.Need-loop-holds Inv-loop μ-loop
 loop-holds c =
     let o = c .before .before .put-column .last .0 in (
       omega arith,
       search needs,
       refl,
-      ap (λ (n : ℕ). take (c .before .before .before .before .before .args .w + 2) o ++ drop n o) (add-zero (c .before .before .before .before .before .args .w + 2)) ∙ take-append-drop (c .before .before .before .before .before .args .w + 2) o,
+      ap (λ (n : ℕ). take (c .before .before .before .before .before .before .args .w + 2) o ++ drop n o) (add-zero (c .before .before .before .before .before .before .args .w + 2)) ∙ take-append-drop (c .before .before .before .before .before .before .args .w + 2) o,
     )
 
--- src/lib.rt:376:26
-array-read-out : tie.Need-array-read-out Inv-loop μ-loop
-array-read-out c = search needs
+shared-slice-read-out : tie.Need-shared-slice-read-out Inv-loop μ-loop
+shared-slice-read-out c = search needs
 
--- src/lib.rt:376:13
 add-out : tie.Need-add-out Inv-loop μ-loop
 add-out c = search needs
 
--- src/lib.rt:376:13
 add-out-2 : tie.Need-add-out-2 Inv-loop μ-loop
 add-out-2 c = search needs
 
--- src/lib.rt:376:9
 slice-write-out : tie.Need-slice-write-out Inv-loop μ-loop
 slice-write-out c = search needs
 
--- src/lib.rt:377:9
 add-k : tie.Need-add-k Inv-loop μ-loop
 add-k c = search needs
 
--- src/lib.rt:375:5
 loop-less : tie.Need-loop-less Inv-loop μ-loop
 loop-less c = search needs
 
--- src/lib.rt:375:5
 loop-again : tie.Need-loop-again Inv-loop μ-loop
 loop-again c =
-    let l = c .before .loop in
-    let a = c .before .before .before .before .before .before .before .args in
-    let o = c .before .before .before .before .put-column .last .0 in
-    let t : length (take (l .k) (a .t2)) ≡ l .k = length-take-le (l .k) (a .t2) (omega arith) in
-    let n : a .w + 2 + l .k ≡ a .w + 2 + length (take (l .k) (a .t2)) = rw t in
-    let r : a .w + 2 + l .k < length o = omega (arith, c .before .before .before .before .put-column .kept, c .before .before .before .before .before .before .before .pre) in
-    let u : take (l .k + 1) (a .t2) ≡ take (l .k) (a .t2) ++ (getD (a .t2) (l .k) 0 ∷ []) = rw add-one (take-suc (a .t2) (l .k) 0 (omega arith)) in (
+    let l = c .before .before .loop in
+    let a = c .before .before .before .before .before .before .before .before .before .args in
+    let o = c .before .before .before .before .before .put-column .last .0 in
+    let t : length (take (l .k) (a .text .now)) ≡ l .k = length-take-le (l .k) (a .text .now) (omega arith) in
+    let n : a .w + 2 + l .k ≡ a .w + 2 + length (take (l .k) (a .text .now)) = rw t in
+    let r : a .w + 2 + l .k < length o = omega (arith, c .before .before .before .before .before .put-column .kept, c .before .before .before .before .before .before .before .before .before .pre .1) in
+    let u : take (l .k + 1) (a .text .now) ≡ take (l .k) (a .text .now) ++ (getD (a .text .now) (l .k) 0 ∷ []) = rw add-one (take-suc (a .text .now) (l .k) 0 (omega arith)) in (
       omega arith,
       l .inv .1,
       simp length-set (l .inv .2),
-      rw (u, ← l .inv .3) (sym (byte-laid o (take (l .k) (a .t2)) (a .w + 2) (a .w + 2 + l .k) (getD (a .t2) (l .k) 0) n r)),
+      rw (u, ← l .inv .3) (sym (byte-laid o (take (l .k) (a .text .now)) (a .w + 2) (a .w + 2 + l .k) (getD (a .text .now) (l .k) 0) n r)),
     )
 
--- src/lib.rt:369:1
 same-length : tie.Need-same-length Inv-loop μ-loop
 same-length c = search needs
 
--- src/lib.rt:369:1
 returns : tie.Need-returns Inv-loop μ-loop
 returns c =
     let l = c .before .loop in
-    let a = c .before .before .before .before .before .before .before .args in
+    let a = c .before .before .before .before .before .before .before .before .args in
     let o = c .before .before .before .before .put-column .last .0 in
-    let t : take (l .k) (a .t2) ≡ a .t2 = take-all (l .k) (a .t2) (omega arith) in
+    let t : take (l .k) (a .text .now) ≡ a .text .now = take-all (l .k) (a .text .now) (omega arith) in
     let k : a .w + 2 - a .w ≡ 2 = omega arith in
     let e : o ≡ laid (a .w) (column 2 (a .refusal)) (a .out .now) = c .before .before .before .before .put-column .ensures ∙ ap (λ (n : ℕ). laid (a .w) (column n (a .refusal)) (a .out .now)) k in
-    sym (l .inv .3) ∙ rw (t, e) (laid-twice (a .w) 2 (column 2 (a .refusal)) (a .out .now) (length-column 2 (a .refusal)) (omega (arith, c .before .before .before .before .before .before .before .pre)) (a .t2))
+    sym (l .inv .3) ∙ rw (t, e) (laid-twice (a .w) 2 (column 2 (a .refusal)) (a .out .now) (length-column 2 (a .refusal)) (omega (arith, c .before .before .before .before .before .before .before .before .pre .1)) (a .text .now))
 
 pub put-row-spec : {M : Type 1} → statement M
 put-row-spec =
@@ -106,7 +94,7 @@ put-row-spec =
     add-put-column
     put-column-requires
     loop-holds
-    array-read-out
+    shared-slice-read-out
     add-out
     add-out-2
     slice-write-out

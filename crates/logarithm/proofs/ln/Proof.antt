@@ -4,9 +4,6 @@ use Rattle.logarithm.specs.Ln.{logarithm}
 use Rattle.logarithm.proofs.ln.Statement.{statement}
 use Rattle.logarithm.proofs.ln.Tie as tie
 
-infinity-requires : tie.Need-infinity-requires
-infinity-requires c κs = search needs
-
 to-bits-requires : tie.Need-to-bits-requires
 to-bits-requires c κs = search needs
 
@@ -17,11 +14,11 @@ returns : tie.Need-returns
 unfolding logarithm
 returns c =
     let b = c .before .before in
-    rw (c .ln-of-bits .ensures, c .before .to-bits .ensures, b .before .before .if1 .taken, ← b .before .infinity .ensures, b .if2 .taken)
+    rw (c .ln-of-bits .ensures, c .before .to-bits .ensures, b .before .if1 .taken, b .if2 .taken)
 
 returns-2 : tie.Need-returns-2
 unfolding logarithm
-returns-2 c = rw (c .before .before .if1 .taken, ← c .before .infinity .ensures, c .if2 .left)
+returns-2 c = rw (c .before .if1 .taken, c .if2 .left)
 
 returns-3 : tie.Need-returns-3
 unfolding logarithm
@@ -30,4 +27,4 @@ returns-3 c = rw (c .if1 .left)
 pub ln-spec : {M : Type 1} → statement M
 ln-spec =
     tie.close
-    (tie.spec infinity-requires to-bits-requires ln-of-bits-requires returns returns-2 returns-3)
+    (tie.spec to-bits-requires ln-of-bits-requires returns returns-2 returns-3)

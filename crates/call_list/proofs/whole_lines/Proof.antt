@@ -1,0 +1,207 @@
+-- `whole_lines` meets its contract: each line is a turn of `one-line`. Assumes nothing.
+use Prim.Native.Nat.{ℕ, _+_, _-_, _≤_, _<_}
+use mathlib.Core.Path.{_≡_, refl, sym, ap, _∙_}
+use mathlib.Core.List.{List}
+use mathlib.Core.Logic.{⊎-elim}
+use native.Mathlib.Omega.{arith}
+use borrow.Author.Needs.{needs}
+use borrow.Author.Tests.{not-true, not-false}
+use lib.ListN.{length, take, drop}
+use Rattle.call_line.specs.Line.{lineOf}
+use Rattle.call_line.specs.declared.Call.{Call}
+use Rattle.call_line.specs.declared.Line.the-variants.{Taken}
+use Rattle.call_list.specs.Answer.{textOf}
+use Rattle.call_list.specs.Feed.{width, rowWidth, blank, runs}
+use Rattle.call_list.specs.Pieces.{here, At}
+use Rattle.call_list.proofs.Laying.{length-text}
+use Rattle.call_list.proofs.Feeding.{stands-within, row-fits, line-stands, one-line}
+use Rattle.call_list.proofs.Turning.{Leaves, call-loudly, call-quietly, same-is}
+use Rattle.call_list.proofs.whole_lines.Statement.{statement}
+use Rattle.call_list.proofs.whole_lines.Tie as tie
+use Rattle.call_list.proofs.whole_lines.Reads as reads
+use Rattle.call_list.proofs.whole_lines.Lts as lts
+use Rattle.call_line.proofs.read_line.Reads as read-line-reads
+use Rattle.call_list.proofs.control_call.Reads as control-call-reads
+use Rattle.call_list.proofs.may_stand.Reads as may-stand-reads
+use Rattle.call_list.proofs.put_row.Reads as put-row-reads
+use Rattle.call_list.proofs.quiet_call.Reads as quiet-call-reads
+use Rattle.call_list.proofs.read.Reads as read-reads
+use Rattle.call_list.proofs.same.Reads as same-reads
+use Rattle.call_list.proofs.text.Reads as text-reads
+
+abbrev Inv-loop : tie.InvT-loop
+Inv-loop times₀ sizes₀ flags₀ chunk from out₀ written controller₀ reading₀ queued₀ row₀ w₀ i₀ times sizes flags out controller reading queued row w i =
+    (from ≤ i) × (written ≤ w) × (row ≡ textOf reading)
+    × At chunk out₀ (runs (here blank 0 (record { controller = controller₀; reading = reading₀; queued = queued₀ }) times₀ sizes₀ flags₀ (take written out₀)) (drop from chunk))
+    times sizes flags out blank 0 (record { controller = controller; reading = reading; queued = queued }) w i
+
+abbrev μ-loop : tie.MeasureT-loop
+μ-loop times₀ sizes₀ flags₀ chunk from out₀ written controller₀ reading₀ queued₀ row₀ w₀ i₀ times sizes flags out controller reading queued row w i =
+    length chunk - i
+
+text-requires : tie.Need-text-requires Inv-loop μ-loop
+text-requires c κs = search needs
+
+loop-holds : tie.Need-loop-holds Inv-loop μ-loop
+loop-holds c =
+    let p = c .before .before .before .before .before .pre in (
+      omega arith,
+      omega arith,
+      c .text .ensures,
+      record { read = p .0; short = omega arith; whole = refl; out-kept = refl; room = p .1; rest = refl; same = refl },
+    )
+
+may-stand-requires : tie.Need-may-stand-requires Inv-loop μ-loop
+may-stand-requires c κs = c .loop .inv .3 .read
+
+-- a line that may stand there has its newline within the chunk
+within : (c : tie.Then1 Inv-loop μ-loop) → c .before .before .loop .i + width < length (c .before .before .before .before .before .before .before .before .args .chunk .now)
+within c = stands-within _ _ (sym (c .before .may-stand .ensures) ∙ c .if1 .taken)
+
+add-end : tie.Need-add-end Inv-loop μ-loop
+add-end c = omega (arith, within c)
+
+sub-read-line : tie.Need-sub-read-line Inv-loop μ-loop
+sub-read-line c = omega (arith, within c)
+
+part-read-line-start : tie.Need-part-read-line-start Inv-loop μ-loop
+part-read-line-start c = omega (arith, within c)
+
+part-read-line-end : tie.Need-part-read-line-end Inv-loop μ-loop
+part-read-line-end c = omega (arith, within c)
+
+read-line-requires : tie.Need-read-line-requires Inv-loop μ-loop
+read-line-requires c κs = search needs
+
+enum-known-call : tie.Need-enum-known-call Inv-loop μ-loop
+enum-known-call c = search needs
+
+quiet-call-requires : tie.Need-quiet-call-requires Inv-loop μ-loop
+quiet-call-requires c κs = search needs
+
+control-call-requires : tie.Need-control-call-requires Inv-loop μ-loop
+control-call-requires c κs = search needs
+
+read-requires : tie.Need-read-requires Inv-loop μ-loop
+read-requires c κs = search needs
+
+same-requires : tie.Need-same-requires Inv-loop μ-loop
+same-requires c κs = search needs
+
+text-requires-2 : tie.Need-text-requires-2 Inv-loop μ-loop
+text-requires-2 c κs = search needs
+
+-- what holds at the end of a turn
+abbrev call : tie.Joined2 Inv-loop μ-loop → Call
+call j = j .before .before .before .before .before .before .call .given .0 .0
+
+fits : (j : tie.Joined2 Inv-loop μ-loop) → j .before .before .before .before .before .before .before .before .before .before .before .before .loop .w + rowWidth ≤ length (j .before .before .before .before .before .before .before .before .before .before .before .before .loop .out)
+fits j = row-fits _ _ _ _ _ _ _ _ _ _ _ _ (j .before .before .before .before .before .before .before .before .before .before .before .before .loop .inv .3) (omega (arith, within (j .before .before .before .before .before .before .before .before .before .before))) (j .before .before .before .before .before .before .before .before .before .before .before .before .before .before .before .before .before .before .pre .2)
+
+text-told : (j : tie.Joined2 Inv-loop μ-loop) → j .if2 .row ≡ textOf (j .if2 .reading)
+text-told j =
+    ⊎-elim (λ a. a .12 ∙ a .9 .ensures ∙ sym (ap textOf (a .11)))
+    (⊎-elim (λ b. b .11 ∙ j .before .before .before .before .before .before .before .before .before .before .before .before .loop .inv .2 ∙ sym (ap textOf (b .10))) (λ c. c .3 ∙ j .before .before .before .before .before .before .before .before .before .before .before .before .loop .inv .2 ∙ sym (ap textOf (c .2))))
+    (j .if2 .came)
+
+text-long : (j : tie.Joined2 Inv-loop μ-loop) → length (j .if2 .row) ≡ 45
+text-long j = ap length (text-told j) ∙ length-text _
+
+leaves :
+    (j : tie.Joined2 Inv-loop μ-loop)
+    → Leaves (record { controller = j .before .before .before .before .before .before .before .before .before .before .before .before .loop .controller; reading = j .before .before .before .before .before .before .before .before .before .before .before .before .loop .reading; queued = j .before .before .before .before .before .before .before .before .before .before .before .before .loop .queued })
+    (j .before .before .before .before .before .before .before .before .before .before .before .before .loop .times) (j .before .before .before .before .before .before .before .before .before .before .before .before .loop .sizes) (j .before .before .before .before .before .before .before .before .before .before .before .before .loop .flags) (call j) (j .before .quiet-call .result) (j .before .quiet-call .last .1 .0) (j .before .quiet-call .last .1 .1 .0) (j .before .quiet-call .last .1 .1 .1 .0) (j .before .quiet-call .ensures)
+    (j .if2 .controller) (j .if2 .reading) (j .if2 .refusal)
+leaves j =
+    let l = j .before .before .before .before .before .before .before .before .before .before .before .before .loop in
+    let k = j .before .quiet-call in
+    let loud = call-loudly (record { controller = l .controller; reading = l .reading; queued = l .queued }) (l .times) (l .sizes) (l .flags) (call j) (k .result) (k .last .1 .0) (k .last .1 .1 .0) (k .last .1 .1 .1 .0) (k .ensures) (j .if2 .controller) (j .if2 .reading) (j .if2 .refusal) in
+    let quiet = call-quietly (record { controller = l .controller; reading = l .reading; queued = l .queued }) (l .times) (l .sizes) (l .flags) (call j) (k .result) (k .last .1 .0) (k .last .1 .1 .0) (k .last .1 .1 .1 .0) (k .ensures) (j .if2 .controller) (j .if2 .reading) (j .if2 .refusal) in
+    ⊎-elim (λ a. loud (a .0 .taken) (a .4 .result) (a .4 .ensures) (a .10) (a .11 ∙ a .6 .ensures) (a .13))
+    (⊎-elim
+    (λ b. loud (b .0 .taken) (b .4 .result) (b .4 .ensures) (b .9) (b .10 ∙ same-is _ _ (sym (b .7 .ensures) ∙ not-false _ (b .8 .left)) ∙ b .6 .ensures) (b .12))
+    (λ c. quiet (c .0 .left) (c .1) (c .2) (c .4)))
+    (j .if2 .came)
+
+slice-aggregate-put-row : tie.Need-slice-aggregate-put-row Inv-loop μ-loop
+slice-aggregate-put-row c = sym (text-long (c .before))
+
+put-row-requires : tie.Need-put-row-requires Inv-loop μ-loop
+put-row-requires c κs = (text-long (c .before .before), fits (c .before .before))
+
+add-w : tie.Need-add-w Inv-loop μ-loop
+add-w c =
+    let y = c .before .before .before .before .before .before .before .before .before .before .before .before .before .before .before .before .before .before .before .before .before .before .before .good in
+    let k = c .before .before .before .before .before .before .before .before .before .before .before .before .before .before .before .before .before .loop .inv .3 .out-kept in
+    omega (arith, k, fits (c .before .before .before .before .before))
+
+add-i : tie.Need-add-i Inv-loop μ-loop
+add-i c =
+    let y = c .before .before .before .before .before .before .before .before .before .before .before .before .before .before .before .before .before .before .before .before .before .before .before .good in
+    omega (arith, within (c .before .before .before .before .before .before .before .before .before .before .before .before .before .before .before))
+
+loop-less : tie.Need-loop-less Inv-loop μ-loop
+loop-less c = omega (arith, within (c .before .before .before .before .before .before .before .before .before .before .before .before .before .before .before))
+
+loop-again : tie.Need-loop-again Inv-loop μ-loop
+loop-again c =
+    let j = c .before .before .before .before .before in
+    let l = j .before .before .before .before .before .before .before .before .before .before .before .before .loop in
+    let a = j .before .before .before .before .before .before .before .before .before .before .before .before .before .before .before .before .before .before .args in
+    let n = within (j .before .before .before .before .before .before .before .before .before .before) in
+    let k : l .i + width - l .i ≡ width = omega arith in
+    let e = sym (j .before .before .before .before .before .before .before .before .before .before .before .may-stand .ensures) ∙ j .before .before .before .before .before .before .before .before .before .before .if1 .taken in
+    let t = ap (λ (x : ℕ). lineOf (take x (drop (l .i) (a .chunk .now)))) (sym k) ∙ sym (j .before .before .before .before .before .before .before .before .read-line .ensures) ∙ j .before .before .before .before .before .before .call .given .1 in (
+      omega (arith, n),
+      omega arith,
+      text-told j,
+      one-line (a .chunk .now) (a .out .now) _ (l .times) (l .sizes) (l .flags) (l .out) blank 0 _ (l .w) (l .i) (l .inv .3) (omega (arith, n)) (j .before .before .before .before .before .before .before .before .before .before .before .before .before .before .before .before .before .before .pre .2) (Taken (call j)) (l .i + width + 1) (omega arith) (omega (arith, n))
+          (line-stands (a .chunk .now) (a .out .now) _ (l .times) (l .sizes) (l .flags) (l .out) blank 0 _ (l .w) (l .i) (l .inv .3) (omega (arith, n)) (j .before .before .before .before .before .before .before .before .before .before .before .before .before .before .before .before .before .before .pre .2) (call j) e refl t)
+          (record { session = record { controller = j .if2 .controller; reading = j .if2 .reading; queued = j .before .quiet-call .result .queued }; answer = record { refusal = j .if2 .refusal; reading = j .if2 .reading } })
+          _ _ _ _ _ (leaves j) (text-told j) (c .before .before .put-row .ensures),
+    )
+
+same-length : tie.Need-same-length Inv-loop μ-loop
+same-length c = search needs
+
+returns : tie.Need-returns Inv-loop μ-loop
+returns c =
+    let l = c .before .before .loop in (l .inv .0, l .inv .1, l .inv .3)
+
+same-length-2 : tie.Need-same-length-2 Inv-loop μ-loop
+same-length-2 c = search needs
+
+returns-2 : tie.Need-returns-2 Inv-loop μ-loop
+returns-2 c =
+    let l = c .before .before .before .before .before .loop in (l .inv .0, l .inv .1, l .inv .3)
+
+pub whole-lines-spec : {M : Type 1} → statement M
+whole-lines-spec =
+    tie.close
+    (tie.spec
+    Inv-loop
+    μ-loop
+    text-requires
+    loop-holds
+    may-stand-requires
+    add-end
+    sub-read-line
+    part-read-line-start
+    part-read-line-end
+    read-line-requires
+    enum-known-call
+    quiet-call-requires
+    control-call-requires
+    read-requires
+    same-requires
+    text-requires-2
+    slice-aggregate-put-row
+    put-row-requires
+    add-w
+    add-i
+    loop-less
+    loop-again
+    same-length
+    returns
+    same-length-2
+    returns-2)
