@@ -1,8 +1,10 @@
 // Answers a call list: standard input to standard output, chunk by chunk. What is answered is
 // `call_list`'s; here are the buffers and the calls of C.
 ghost use Prim.Native.Nat.{_≤_, _/_};
+ghost use mathlib.Core.Path.{_≡_};
 ghost use lib.ListN.{length};
 ghost use Rattle.call_list.specs.Feed.{kept, rowWidth};
+ghost use Rattle.call_list.specs.Whole.{none};
 use call_list::PLACES;
 use call_list::ROW;
 use call_list::State;
@@ -29,6 +31,8 @@ fn main() {
     answer_all(&mut times, &mut sizes, &mut flags, &mut chunk, &mut out);
 }
 
+// The queue's columns start as zeros, as `call_list`'s theorem over a whole input has them.
+//
 // A proved loop has to end, and nothing says that the input does: the turns are counted down from a
 // number that no run uses up.
 fn answer_all(
@@ -38,7 +42,7 @@ fn answer_all(
     chunk: &mut [u8],
     out: &mut [u8],
 )
-    requires { ⌜ (length (now chunk) ≤ length (now out) / rowWidth) × (rowWidth ≤ length (now out)) ⌝ }
+    requires { ⌜ (now times ≡ none) × (now sizes ≡ none) × (now flags ≡ none) × (length (now chunk) ≤ length (now out) / rowWidth) × (rowWidth ≤ length (now out)) ⌝ }
 {
     let mut state = call_list::start();
     let mut left = u64::MAX;

@@ -11,7 +11,7 @@ use Rattle.loss_controller.specs.Setters.{timeRefusal}
 use Rattle.call_line.specs.declared.Fields.{Fields}
 use Rattle.call_line.specs.declared.Fields.the-variants.{Read as Fields·Read, Unreadable}
 use Rattle.call_line.specs.declared.Call.{Call}
-use Rattle.call_line.specs.declared.Call.the-variants.{Estimate, Acknowledged, AlrOn, AlrOff, CapacityIs, CapacityNone, Packet, Report, Read}
+use Rattle.call_line.specs.declared.Call.the-variants.{AlrOn, AlrOff, CapacityIs, CapacityNone, Report, Read}
 use Rattle.call_line.specs.declared.Line.the-variants.{Taken, Refused, ReportRefused}
 use Rattle.call_line.specs.Column.{row}
 use Rattle.call_line.specs.Line.{widths, fieldsOf, inTable, rateCode, unlessRefused, byFlag, reportOf, alrOf, capacityOf, packetOf, callOf, valuesOf, checked, lineOf}

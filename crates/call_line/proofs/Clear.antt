@@ -7,7 +7,7 @@ use native.Mathlib.Decide.{decLt}
 use native.Mathlib.Omega.{arith}
 use borrow.Author.Tests.{eqb-true, eqb-false}
 use lib.Dec.{eqb}
-use lib.ListN.{length, getD, take, drop, length-take, length-drop}
+use lib.ListN.{length, getD, drop, length-take, length-drop}
 use lib.Seq.{getD-take, getD-drop}
 use Rattle.call_line.specs.declared.Call.{Call}
 use Rattle.call_line.specs.declared.Line.the-variants.{Taken, Refused}

@@ -6,7 +6,7 @@ use native.Mathlib.Omega.{arith}
 use borrow.Author.Tests.{leb-true}
 use Rattle.packets.specs.Summary.{largestPacket}
 use Rattle.call_line.specs.declared.Line.the-variants.{Refused}
-use Rattle.call_line.specs.Line.{none, alone, flagged, packet, ruleOf, inTable, callOf}
+use Rattle.call_line.specs.Line.{none, alone, flagged, ruleOf, inTable, callOf}
 
 pub rule-12 : (k : ℕ) → 1 ≤ k → k < 3 → ruleOf k ≡ alone
 rule-12 zero l u = absurd (omega arith)

@@ -19,8 +19,8 @@ use Rattle.call_list.specs.declared.LineAnswer.{LineAnswer}
 use Rattle.call_list.specs.declared.State.{State}
 use Rattle.call_list.specs.declared.Fed.{Fed}
 use Rattle.call_list.specs.declared.Next.{Next}
-use Rattle.call_list.specs.Answer.{Machine, machineOf, afterOf, textOf, rowOf, After}
-use Rattle.call_list.specs.Feed.{Run, width, kept, rowWidth, blank, pushed, told, ended, step, runs, finished, startOf, FedBy, Feeds, Finishes, roomy}
+use Rattle.call_list.specs.Answer.{machineOf, afterOf, textOf, rowOf, After}
+use Rattle.call_list.specs.Feed.{Run, width, kept, rowWidth, blank, pushed, told, ended, step, runs, startOf, FedBy, Feeds, Finishes, roomy}
 use Rattle.call_list.specs.Pieces.{nextOf, mayStand, here, At, laid}
 use Rattle.call_list.proofs.Lines.{run-on, long, whole-line}
 use Rattle.call_list.proofs.Laying.{length-row, take-laid, drop-laid, length-laid}

@@ -1,11 +1,11 @@
 -- Bytes laid one after another into a buffer. Assumes nothing.
-use Prim.Native.Nat.{ℕ, zero, suc, _+_, _-_, _≤_, _<_}
+use Prim.Native.Nat.{ℕ, suc, _+_, _-_, _≤_, _<_}
 use mathlib.Core.Path.{_≡_, refl, sym, ap, _∙_}
-use mathlib.Core.List.{List, [], _∷_, _++_, append-assoc, append-nil}
+use mathlib.Core.List.{List, [], _∷_, _++_, append-assoc}
 use native.Mathlib.Numerals.{add-one}
 use native.Mathlib.Omega.{arith}
-use lib.ListN.{length, getD, take, drop, set, replicate, length-append, length-take, length-drop}
-use lib.Seq.{take-at, drop-at, drop-drop, set-at, drop-cons, length-take-le, take-suc}
+use lib.ListN.{length, getD, take, drop, set, length-append, length-take, length-drop}
+use lib.Seq.{take-at, drop-at, drop-drop, set-at, drop-cons, length-take-le}
 use borrow.Rule.Slice.PartMut.{midOf, putMid, mid-len, post-is}
 use Rattle.call_line.specs.Column.{column}
 use Rattle.call_line.proofs.RoundTrip.{length-column}

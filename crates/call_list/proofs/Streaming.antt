@@ -16,8 +16,8 @@ use Rattle.call_line.proofs.Clear.{other-length}
 use Rattle.call_list.specs.declared.Reading.{Reading}
 use Rattle.call_list.specs.declared.State.{State}
 use Rattle.call_list.specs.declared.Fed.{Fed}
-use Rattle.call_list.specs.Answer.{Machine, Answered, machineOf, calls, lineControlled, lineQueued, afterOf, readingOf, readAfter, rowOf}
-use Rattle.call_list.specs.Feed.{Run, kept, rowWidth, blank, pushed, pushedLine, pushedLen, told, ended, step, runs, finished, startOf, fresh, FedBy, Feeds, Finishes, roomy}
+use Rattle.call_list.specs.Answer.{Machine, Answered, calls, lineControlled, lineQueued, afterOf, readingOf, readAfter, rowOf}
+use Rattle.call_list.specs.Feed.{Run, kept, rowWidth, pushed, told, ended, step, runs, finished, startOf, fresh, FedBy, roomy}
 use Rattle.call_list.proofs.Laying.{length-row}
 use Rattle.call_list.specs.Whole.{lastLine, linesFrom, linesOf, answeredLine, row, answersTo, joined, none, freshMachine, answers, Writes, last, more, Program}
 

@@ -17,7 +17,7 @@ use Rattle.call_line.specs.declared.Line.the-variants.{Taken, Refused, ReportRe
 use Rattle.call_list.specs.declared.Reading.{Reading}
 use Rattle.call_list.specs.declared.Session.{Session}
 use Rattle.call_list.specs.declared.Quiet.{Quiet}
-use Rattle.call_list.specs.Answer.{Queue, Queued, places, queueOf, machineOf, callQueued, lineQueued, callCalls, calls, callControlled, lineControlled, readingOf, afterOf, After}
+use Rattle.call_list.specs.Answer.{Queue, places, queueOf, machineOf, callQueued, lineQueued, callCalls, calls, callControlled, lineControlled, readingOf, afterOf, After}
 use Rattle.call_list.specs.Pieces.{QuietBy, calledBy, held, sameReading}
 
 -- ---- the queue

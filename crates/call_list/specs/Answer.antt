@@ -5,7 +5,7 @@ use mathlib.Core.Bool.{Bool, true, false, cond}
 use mathlib.Core.List.{List, [], _∷_, _++_}
 use lib.Dec.{ltb}
 use lib.Ieee.{binary64, toBits}
-use lib.ListN.{length, take, drop, set}
+use lib.ListN.{take, set}
 use Rattle.float.specs.Rounded.{bits}
 use Rattle.bandwidth.specs.Rate.{rate}
 use Rattle.bandwidth.specs.declared.Bitrate.{Bitrate}

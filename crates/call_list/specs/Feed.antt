@@ -10,10 +10,9 @@ use Rattle.call_line.specs.Column.{total}
 use Rattle.call_line.specs.Line.{lineOf, widths}
 use Rattle.call_line.specs.declared.Line.{Line}
 use Rattle.call_list.specs.declared.Reading.{Reading}
-use Rattle.call_list.specs.declared.Session.{Session}
 use Rattle.call_list.specs.declared.State.{State}
 use Rattle.call_list.specs.declared.Fed.{Fed}
-use Rattle.call_list.specs.Answer.{Machine, Answered, machineOf, afterOf, readAfter, readingOf, rowOf}
+use Rattle.call_list.specs.Answer.{Machine, machineOf, afterOf, readAfter, readingOf, rowOf}
 
 -- a line in shape is as wide as its columns
 abbrev pub width : ℕ

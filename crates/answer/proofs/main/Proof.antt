@@ -1,4 +1,4 @@
--- `main` is safe: its buffers are as long as they say. Assumes nothing.
+-- `main` is safe: its buffers are as long as they say, and the queue's columns are zeros. Assumes nothing.
 use Prim.Native.Nat.{ℕ, _≤_, _/_}
 use mathlib.Core.List.{List}
 use mathlib.Core.Path.{_≡_, refl, sym}
@@ -20,7 +20,7 @@ slice-aggregate-answer-all-2 c = sym (length-replicate {0} {A = ℕ} 3080192 0)
 
 answer-all-requires : tie.Need-answer-all-requires
 answer-all-requires c κs =
-    room (replicate 65536 0) (replicate 3080192 0) (length-replicate {0} {A = ℕ} 65536 0) (length-replicate {0} {A = ℕ} 3080192 0)
+    let r = room (replicate 65536 0) (replicate 3080192 0) (length-replicate {0} {A = ℕ} 65536 0) (length-replicate {0} {A = ℕ} 3080192 0) in (refl, refl, refl, r .0, r .1)
 
 returns : tie.Need-returns
 returns c = tt

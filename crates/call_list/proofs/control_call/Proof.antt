@@ -1,147 +1,106 @@
 use borrow.Author.Needs.{needs}
 use Rattle.call_list.specs.Answer.{callControlled}
-use mathlib.Core.Path.{_≡_, refl, sym, ap, _∙_}
 use Rattle.call_list.proofs.control_call.Statement.{statement}
 use Rattle.call_list.proofs.control_call.Tie as tie
-use Rattle.call_list.proofs.control_call.Reads as reads
-use Rattle.call_list.proofs.control_call.Lts as lts
-use Rattle.call_list.proofs.rate.Reads as rate-reads
-use Rattle.call_list.proofs.report.Reads as report-reads
-use Rattle.call_list.proofs.unchanged.Reads as unchanged-reads
-use Rattle.loss_controller.proofs.LossController.set_acknowledged_bitrate.Reads as set-acknowledged-bitrate-reads
-use Rattle.loss_controller.proofs.LossController.set_alr_start_time.Reads as set-alr-start-time-reads
-use Rattle.loss_controller.proofs.LossController.set_bandwidth_estimate.Reads as set-bandwidth-estimate-reads
-use Rattle.loss_controller.proofs.LossController.set_link_capacity_estimate.Reads as set-link-capacity-estimate-reads
 
--- src/lib.rt:236:24
 enum-known-call : tie.Need-enum-known-call
 enum-known-call c = search needs
 
--- src/lib.rt:236:67
 rate-requires : tie.Need-rate-requires
 rate-requires c κs = search needs
 
--- src/lib.rt:236:33
 set-bandwidth-estimate-requires : tie.Need-set-bandwidth-estimate-requires
 set-bandwidth-estimate-requires c κs = search needs
 
--- src/lib.rt:237:28
 enum-known-call-2 : tie.Need-enum-known-call-2
 enum-known-call-2 c = search needs
 
--- src/lib.rt:237:73
 rate-requires-2 : tie.Need-rate-requires-2
 rate-requires-2 c κs = search needs
 
--- src/lib.rt:237:37
 set-acknowledged-bitrate-requires : tie.Need-set-acknowledged-bitrate-requires
 set-acknowledged-bitrate-requires c κs = search needs
 
--- src/lib.rt:238:21
 enum-known-call-3 : tie.Need-enum-known-call-3
 enum-known-call-3 c = search needs
 
--- src/lib.rt:238:31
 set-alr-start-time-requires : tie.Need-set-alr-start-time-requires
 set-alr-start-time-requires c κs = search needs
 
--- src/lib.rt:239:55
 enum-told : tie.Need-enum-told
 enum-told c = search needs
 
--- src/lib.rt:239:25
 set-alr-start-time-requires-2 : tie.Need-set-alr-start-time-requires-2
 set-alr-start-time-requires-2 c κs = search needs
 
--- src/lib.rt:240:26
 enum-known-call-4 : tie.Need-enum-known-call-4
 enum-known-call-4 c = search needs
 
--- src/lib.rt:241:48
 rate-requires-3 : tie.Need-rate-requires-3
 rate-requires-3 c κs = search needs
 
--- src/lib.rt:242:13
 set-link-capacity-estimate-requires : tie.Need-set-link-capacity-estimate-requires
 set-link-capacity-estimate-requires c κs = search needs
 
--- src/lib.rt:244:69
 enum-told-2 : tie.Need-enum-told-2
 enum-told-2 c = search needs
 
--- src/lib.rt:244:31
 set-link-capacity-estimate-requires-2 : tie.Need-set-link-capacity-estimate-requires-2
 set-link-capacity-estimate-requires-2 c κs = search needs
 
--- src/lib.rt:245:22
 enum-known-call-5 : tie.Need-enum-known-call-5
 enum-known-call-5 c = search needs
 
--- src/lib.rt:245:79
 rate-requires-4 : tie.Need-rate-requires-4
 rate-requires-4 c κs = search needs
 
--- src/lib.rt:245:31
 report-requires : tie.Need-report-requires
 report-requires c κs = search needs
 
--- src/lib.rt:250:14
 enum-told-3 : tie.Need-enum-told-3
 enum-told-3 c = search needs
 
--- src/lib.rt:250:14
 unchanged-requires : tie.Need-unchanged-requires
 unchanged-requires c κs = search needs
 
--- src/lib.rt:251:23
 enum-told-4 : tie.Need-enum-told-4
 enum-told-4 c = search needs
 
--- src/lib.rt:251:23
 unchanged-requires-2 : tie.Need-unchanged-requires-2
 unchanged-requires-2 c κs = search needs
 
--- src/lib.rt:225:1
 returns : tie.Need-returns
 unfolding callControlled
 returns c = rw (c .before .before .before .call .given .1, ← c .before .rate .ensures) (c .set-bandwidth-estimate .ensures)
 
--- src/lib.rt:225:1
 returns-2 : tie.Need-returns-2
 unfolding callControlled
 returns-2 c = rw (c .before .before .before .call2 .given .1, ← c .before .rate2 .ensures) (c .set-acknowledged-bitrate .ensures)
 
--- src/lib.rt:225:1
 returns-3 : tie.Need-returns-3
 unfolding callControlled
 returns-3 c = rw (c .before .before .call3 .given .1) (c .set-alr-start-time .ensures)
 
--- src/lib.rt:225:1
 returns-4 : tie.Need-returns-4
 unfolding callControlled
 returns-4 c = rw (c .before .enum-told .given .1) (c .set-alr-start-time2 .ensures)
 
--- src/lib.rt:225:1
 returns-5 : tie.Need-returns-5
 unfolding callControlled
 returns-5 c = rw (c .before .before .before .call4 .given .1, ← c .before .rate3 .ensures) (c .set-link-capacity-estimate .ensures)
 
--- src/lib.rt:225:1
 returns-6 : tie.Need-returns-6
 unfolding callControlled
 returns-6 c = rw (c .before .enum-told2 .given .1) (c .set-link-capacity-estimate2 .ensures)
 
--- src/lib.rt:225:1
 returns-7 : tie.Need-returns-7
 unfolding callControlled
 returns-7 c = rw (c .before .before .before .before .before .before .call5 .given .1, ← c .before .rate4 .ensures) (c .report .ensures)
 
--- src/lib.rt:225:1
 returns-8 : tie.Need-returns-8
 unfolding callControlled
 returns-8 c = rw (c .before .enum-told3 .given .1) (c .unchanged .ensures)
 
--- src/lib.rt:225:1
 returns-9 : tie.Need-returns-9
 unfolding callControlled
 returns-9 c = rw (c .before .enum-told4 .given .1) (c .unchanged2 .ensures)

@@ -1,45 +1,32 @@
 use borrow.Author.Needs.{needs}
 use Rattle.call_list.proofs.Feeding.{long-no, room-no, room-yes, not-fed, all-fed}
 use lib.ListN.{length}
-use native.Mathlib.Omega.{arith}
-use Prim.Native.Nat.{ℕ, _+_, _-_, _*_, _/_, _≤_, _<_}
-use mathlib.Core.Path.{_≡_, refl, sym, ap, _∙_}
+use Prim.Native.Nat.{_-_}
 use Rattle.call_list.proofs.feed.Statement.{statement}
 use Rattle.call_list.proofs.feed.Tie as tie
-use Rattle.call_list.proofs.feed.Reads as reads
-use Rattle.call_list.proofs.feed.Lts as lts
-use Rattle.call_list.proofs.feed_all.Reads as feed-all-reads
-use Rattle.call_list.proofs.not_taken.Reads as not-taken-reads
 
--- src/lib.rt:586:9
 not-taken-requires : tie.Need-not-taken-requires
 not-taken-requires c κs = search needs
 
--- src/lib.rt:586:9
 returns : tie.Need-returns
 returns c =
     let a = c .before .before .before .before .args in
     rw (c .not-taken .ensures) (not-fed (a .state) (a .times .now) (a .sizes .now) (a .flags .now) (a .out .now) (a .chunk .now) (long-no (a .state .len) (length (a .chunk .now)) (length (a .out .now)) (c .before .if1 .taken)))
 
--- src/lib.rt:589:9
 not-taken-requires-2 : tie.Need-not-taken-requires-2
 not-taken-requires-2 c κs = search needs
 
--- src/lib.rt:589:9
 returns-2 : tie.Need-returns-2
 returns-2 c =
     let a = c .before .before .before .before .before .args in
     rw (c .not-taken2 .ensures) (not-fed (a .state) (a .times .now) (a .sizes .now) (a .flags .now) (a .out .now) (a .chunk .now) (room-no (a .state .len) (length (a .chunk .now)) (length (a .out .now)) (c .before .before .if1 .left) (c .before .if2 .taken)))
 
--- src/lib.rt:591:5
 feed-all-requires : tie.Need-feed-all-requires
 feed-all-requires c κs = search needs
 
--- src/lib.rt:574:1
 same-length : tie.Need-same-length
 same-length c = search needs
 
--- src/lib.rt:574:1
 returns-3 : tie.Need-returns-3
 returns-3 c =
     let a = c .before .before .before .before .before .before .before .before .before .before .before .args in

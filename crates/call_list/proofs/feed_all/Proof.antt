@@ -1,32 +1,35 @@
 -- `feed_all` meets its contract: a turn answers the line that ends next, and the lines that stand whole after it. Assumes nothing.
-use Prim.Native.Nat.{ℕ, _+_, _-_}
-use mathlib.Core.Path.{_≡_, refl, sym, ap, _∙_}
-use mathlib.Core.List.{List, []}
+use Prim.Native.Nat.{_+_, _-_, _≤_, _<_}
+use mathlib.Core.Path.{refl, sym, ap, _∙_}
 use native.Mathlib.Omega.{arith}
 use borrow.Author.Needs.{needs}
 use lib.ListN.{length}
 use lib.Seq.{length-take-le}
-use Rattle.call_list.specs.Feed.{rowWidth, blank, runs}
-use Rattle.call_list.specs.Pieces.{here, At}
+use Rattle.call_list.specs.Feed.{rowWidth, blank, runs, startOf}
+use Rattle.call_list.specs.Pieces.{At}
 use Rattle.call_list.proofs.Laying.{length-text}
 use Rattle.call_list.proofs.Feeding.{Kept, kept-line, row-fits, one-line, no-line, line-more, line-within, line-run, go-on, all-read}
 use Rattle.call_list.proofs.feed_all.Statement.{statement}
 use Rattle.call_list.proofs.feed_all.Tie as tie
-use Rattle.call_list.proofs.feed_all.Reads as reads
-use Rattle.call_list.proofs.feed_all.Lts as lts
-use Rattle.call_list.proofs.answer_line.Reads as answer-line-reads
-use Rattle.call_list.proofs.put_row.Reads as put-row-reads
-use Rattle.call_list.proofs.read_on.Reads as read-on-reads
-use Rattle.call_list.proofs.text.Reads as text-reads
-use Rattle.call_list.proofs.whole_lines.Reads as whole-lines-reads
 
 abbrev Inv-loop : tie.InvT-loop
 Inv-loop times₀ sizes₀ flags₀ chunk out₀ line₀ len₀ session₀ w₀ i₀ times sizes flags out line len session w i =
-    At chunk out₀ (runs (here line₀ len₀ session₀ times₀ sizes₀ flags₀ []) chunk) times sizes flags out line len session w i
+    At chunk out₀ (runs (startOf (record { line = line₀; len = len₀; session = session₀ }) times₀ sizes₀ flags₀) chunk) times sizes flags out line len session w i
 
 abbrev μ-loop : tie.MeasureT-loop
 μ-loop times₀ sizes₀ flags₀ chunk out₀ line₀ len₀ session₀ w₀ i₀ times sizes flags out line len session w i =
     length chunk - i
+
+-- ---- the stages of a turn
+
+abbrev begin : tie.In-loop Inv-loop μ-loop → tie.Start Inv-loop μ-loop
+begin c = c .before .before .before .before .before .before
+
+abbrev head : tie.After-line2 Inv-loop μ-loop → tie.In-loop Inv-loop μ-loop
+head c = c .before .before
+
+abbrev row-written : tie.After-put-row Inv-loop μ-loop → tie.Then1 Inv-loop μ-loop
+row-written c = c .before .before .before .before .before .before .before .before .before .before .before
 
 loop-holds : tie.Need-loop-holds Inv-loop μ-loop
 loop-holds c =
@@ -43,9 +46,12 @@ loop-holds c =
 read-on-requires : tie.Need-read-on-requires Inv-loop μ-loop
 read-on-requires c κs = (c .before .loop .inv .short, c .before .loop .inv .read)
 
--- the line that ended
+-- ---- the line that ended
+
 kept : (c : tie.Then1 Inv-loop μ-loop) → Kept (c .before .before .read-on .result .line) (c .before .before .read-on .result .len)
-kept c = kept-line (c .before .before .before .before .before .before .before .before .before .args .chunk .now) (c .before .before .before .before .before .before .before .before .before .args .out .now) _ (c .before .before .before .before .loop .times) (c .before .before .before .before .loop .sizes) (c .before .before .before .before .loop .flags) (c .before .before .before .before .loop .out) (c .before .before .before .before .loop .line) (c .before .before .before .before .loop .len) (c .before .before .before .before .loop .session) (c .before .before .before .before .loop .w) (c .before .before .before .before .loop .i) (c .before .before .before .before .loop .inv) (c .before .before .before .loop-test .taken) (c .before .before .before .before .before .before .before .before .before .pre .1) (c .before .before .read-on .result) (c .before .before .read-on .ensures)
+kept c =
+    let h = head (c .before) in
+    kept-line _ _ _ _ _ _ _ _ _ _ _ _ (h .before .loop .inv) (h .loop-test .taken) (begin h .pre .1) _ (c .before .before .read-on .ensures)
 
 array-share-prefix-line : tie.Need-array-share-prefix-line Inv-loop μ-loop
 array-share-prefix-line c =
@@ -53,7 +59,9 @@ array-share-prefix-line c =
     omega (arith, k .short, k .whole)
 
 slice-aggregate-answer-line : tie.Need-slice-aggregate-answer-line Inv-loop μ-loop
-slice-aggregate-answer-line c = sym (length-take-le _ _ (omega (arith, kept (c .before .before .before .before) .short, kept (c .before .before .before .before) .whole)))
+slice-aggregate-answer-line c =
+    let k = kept (c .before .before .before .before) in
+    sym (length-take-le _ _ (omega (arith, k .short, k .whole)))
 
 answer-line-requires : tie.Need-answer-line-requires Inv-loop μ-loop
 answer-line-requires c κs = search needs
@@ -64,53 +72,86 @@ text-requires c κs = search needs
 slice-aggregate-put-row : tie.Need-slice-aggregate-put-row Inv-loop μ-loop
 slice-aggregate-put-row c = sym (ap length (c .before .text .ensures) ∙ length-text _)
 
-put-row-requires : tie.Need-put-row-requires Inv-loop μ-loop
-put-row-requires c κs = (ap length (c .before .before .text .ensures) ∙ length-text _, row-fits (c .before .before .before .before .before .before .before .before .before .before .before .before .before .before .before .before .before .before .before .args .chunk .now) (c .before .before .before .before .before .before .before .before .before .before .before .before .before .before .before .before .before .before .before .args .out .now) _ (c .before .before .before .before .before .before .before .before .before .before .before .before .before .before .loop .times) (c .before .before .before .before .before .before .before .before .before .before .before .before .before .before .loop .sizes) (c .before .before .before .before .before .before .before .before .before .before .before .before .before .before .loop .flags) (c .before .before .before .before .before .before .before .before .before .before .before .before .before .before .loop .out) (c .before .before .before .before .before .before .before .before .before .before .before .before .before .before .loop .line) (c .before .before .before .before .before .before .before .before .before .before .before .before .before .before .loop .len) (c .before .before .before .before .before .before .before .before .before .before .before .before .before .before .loop .session) (c .before .before .before .before .before .before .before .before .before .before .before .before .before .before .loop .w) (c .before .before .before .before .before .before .before .before .before .before .before .before .before .before .loop .i) (c .before .before .before .before .before .before .before .before .before .before .before .before .before .before .loop .inv) (c .before .before .before .before .before .before .before .before .before .before .before .before .before .loop-test .taken) (c .before .before .before .before .before .before .before .before .before .before .before .before .before .before .before .before .before .before .before .pre .1))
+fits : (c : tie.Then1 Inv-loop μ-loop) → (let l = head (c .before) .before .loop in l .w + rowWidth ≤ length (l .out))
+fits c =
+    let h = head (c .before) in
+    row-fits _ _ _ _ _ _ _ _ _ _ _ _ (h .before .loop .inv) (h .loop-test .taken) (begin h .pre .1)
 
--- and is answered
+put-row-requires : tie.Need-put-row-requires Inv-loop μ-loop
+put-row-requires c κs = (ap length (c .before .before .text .ensures) ∙ length-text _, fits (c .before .before .before .before .before .before .before .before .before .before))
+
+more : (c : tie.Then1 Inv-loop μ-loop) → head (c .before) .before .loop .i < c .before .before .read-on .result .read
+more c =
+    let h = head (c .before) in
+    line-more _ _ _ _ _ _ _ _ _ _ _ _ (h .before .loop .inv) (h .loop-test .taken) (begin h .pre .1) _ (c .before .before .read-on .ensures) (c .if1 .taken)
+
+-- it is answered
 turned :
     (c : tie.After-put-row Inv-loop μ-loop)
-    → At (c .before .before .before .before .before .before .before .before .before .before .before .before .before .before .before .before .before .before .before .before .args .chunk .now) (c .before .before .before .before .before .before .before .before .before .before .before .before .before .before .before .before .before .before .before .before .args .out .now)
-    (runs (here (c .before .before .before .before .before .before .before .before .before .before .before .before .before .before .before .before .before .before .before .before .args .state .line) (c .before .before .before .before .before .before .before .before .before .before .before .before .before .before .before .before .before .before .before .before .args .state .len) (c .before .before .before .before .before .before .before .before .before .before .before .before .before .before .before .before .before .before .before .before .args .state .session) (c .before .before .before .before .before .before .before .before .before .before .before .before .before .before .before .before .before .before .before .before .args .times .now) (c .before .before .before .before .before .before .before .before .before .before .before .before .before .before .before .before .before .before .before .before .args .sizes .now) (c .before .before .before .before .before .before .before .before .before .before .before .before .before .before .before .before .before .before .before .before .args .flags .now) []) (c .before .before .before .before .before .before .before .before .before .before .before .before .before .before .before .before .before .before .before .before .args .chunk .now))
-    (c .before .before .before .before .before .before .answer-line .last .1 .0) (c .before .before .before .before .before .before .answer-line .last .1 .1 .0) (c .before .before .before .before .before .before .answer-line .last .1 .1 .1 .0) (c .put-row .last .1 .1 .0) blank 0 (c .before .before .before .before .before .before .answer-line .result .session) (c .before .before .before .before .before .before .before .before .before .before .before .before .before .before .before .loop .w + rowWidth) (c .before .before .before .before .before .before .before .before .before .before .before .before .before .read-on .result .read)
+    → (let t = row-written c in
+    let h = head (t .before) in
+    let a = begin h .args in
+    let d = c .before .before .before .before .before .before .answer-line in
+    At (a .chunk .now) (a .out .now) (runs (startOf (a .state) (a .times .now) (a .sizes .now) (a .flags .now)) (a .chunk .now))
+    (d .last .1 .0) (d .last .1 .1 .0) (d .last .1 .1 .1 .0) (c .put-row .last .1 .1 .0) blank 0 (d .result .session) (h .before .loop .w + rowWidth) (t .before .before .read-on .result .read))
 turned c =
-    one-line (c .before .before .before .before .before .before .before .before .before .before .before .before .before .before .before .before .before .before .before .before .args .chunk .now) (c .before .before .before .before .before .before .before .before .before .before .before .before .before .before .before .before .before .before .before .before .args .out .now) _ (c .before .before .before .before .before .before .before .before .before .before .before .before .before .before .before .loop .times) (c .before .before .before .before .before .before .before .before .before .before .before .before .before .before .before .loop .sizes) (c .before .before .before .before .before .before .before .before .before .before .before .before .before .before .before .loop .flags) (c .before .before .before .before .before .before .before .before .before .before .before .before .before .before .before .loop .out) (c .before .before .before .before .before .before .before .before .before .before .before .before .before .before .before .loop .line) (c .before .before .before .before .before .before .before .before .before .before .before .before .before .before .before .loop .len) (c .before .before .before .before .before .before .before .before .before .before .before .before .before .before .before .loop .session) (c .before .before .before .before .before .before .before .before .before .before .before .before .before .before .before .loop .w) (c .before .before .before .before .before .before .before .before .before .before .before .before .before .before .before .loop .i) (c .before .before .before .before .before .before .before .before .before .before .before .before .before .before .before .loop .inv) (c .before .before .before .before .before .before .before .before .before .before .before .before .before .before .loop-test .taken) (c .before .before .before .before .before .before .before .before .before .before .before .before .before .before .before .before .before .before .before .before .pre .1) _ _ (line-more (c .before .before .before .before .before .before .before .before .before .before .before .before .before .before .before .before .before .before .before .before .args .chunk .now) (c .before .before .before .before .before .before .before .before .before .before .before .before .before .before .before .before .before .before .before .before .args .out .now) _ (c .before .before .before .before .before .before .before .before .before .before .before .before .before .before .before .loop .times) (c .before .before .before .before .before .before .before .before .before .before .before .before .before .before .before .loop .sizes) (c .before .before .before .before .before .before .before .before .before .before .before .before .before .before .before .loop .flags) (c .before .before .before .before .before .before .before .before .before .before .before .before .before .before .before .loop .out) (c .before .before .before .before .before .before .before .before .before .before .before .before .before .before .before .loop .line) (c .before .before .before .before .before .before .before .before .before .before .before .before .before .before .before .loop .len) (c .before .before .before .before .before .before .before .before .before .before .before .before .before .before .before .loop .session) (c .before .before .before .before .before .before .before .before .before .before .before .before .before .before .before .loop .w) (c .before .before .before .before .before .before .before .before .before .before .before .before .before .before .before .loop .i) (c .before .before .before .before .before .before .before .before .before .before .before .before .before .before .before .loop .inv) (c .before .before .before .before .before .before .before .before .before .before .before .before .before .before .loop-test .taken) (c .before .before .before .before .before .before .before .before .before .before .before .before .before .before .before .before .before .before .before .before .pre .1) (c .before .before .before .before .before .before .before .before .before .before .before .before .before .read-on .result) (c .before .before .before .before .before .before .before .before .before .before .before .before .before .read-on .ensures) (c .before .before .before .before .before .before .before .before .before .before .before .if1 .taken)) (line-within (c .before .before .before .before .before .before .before .before .before .before .before .before .before .before .before .before .before .before .before .before .args .chunk .now) (c .before .before .before .before .before .before .before .before .before .before .before .before .before .before .before .before .before .before .before .before .args .out .now) _ (c .before .before .before .before .before .before .before .before .before .before .before .before .before .before .before .loop .times) (c .before .before .before .before .before .before .before .before .before .before .before .before .before .before .before .loop .sizes) (c .before .before .before .before .before .before .before .before .before .before .before .before .before .before .before .loop .flags) (c .before .before .before .before .before .before .before .before .before .before .before .before .before .before .before .loop .out) (c .before .before .before .before .before .before .before .before .before .before .before .before .before .before .before .loop .line) (c .before .before .before .before .before .before .before .before .before .before .before .before .before .before .before .loop .len) (c .before .before .before .before .before .before .before .before .before .before .before .before .before .before .before .loop .session) (c .before .before .before .before .before .before .before .before .before .before .before .before .before .before .before .loop .w) (c .before .before .before .before .before .before .before .before .before .before .before .before .before .before .before .loop .i) (c .before .before .before .before .before .before .before .before .before .before .before .before .before .before .before .loop .inv) (c .before .before .before .before .before .before .before .before .before .before .before .before .before .before .loop-test .taken) (c .before .before .before .before .before .before .before .before .before .before .before .before .before .before .before .before .before .before .before .before .pre .1) (c .before .before .before .before .before .before .before .before .before .before .before .before .before .read-on .result) (c .before .before .before .before .before .before .before .before .before .before .before .before .before .read-on .ensures) (c .before .before .before .before .before .before .before .before .before .before .before .if1 .taken)) (line-run (c .before .before .before .before .before .before .before .before .before .before .before .before .before .before .before .before .before .before .before .before .args .chunk .now) (c .before .before .before .before .before .before .before .before .before .before .before .before .before .before .before .before .before .before .before .before .args .out .now) _ (c .before .before .before .before .before .before .before .before .before .before .before .before .before .before .before .loop .times) (c .before .before .before .before .before .before .before .before .before .before .before .before .before .before .before .loop .sizes) (c .before .before .before .before .before .before .before .before .before .before .before .before .before .before .before .loop .flags) (c .before .before .before .before .before .before .before .before .before .before .before .before .before .before .before .loop .out) (c .before .before .before .before .before .before .before .before .before .before .before .before .before .before .before .loop .line) (c .before .before .before .before .before .before .before .before .before .before .before .before .before .before .before .loop .len) (c .before .before .before .before .before .before .before .before .before .before .before .before .before .before .before .loop .session) (c .before .before .before .before .before .before .before .before .before .before .before .before .before .before .before .loop .w) (c .before .before .before .before .before .before .before .before .before .before .before .before .before .before .before .loop .i) (c .before .before .before .before .before .before .before .before .before .before .before .before .before .before .before .loop .inv) (c .before .before .before .before .before .before .before .before .before .before .before .before .before .before .loop-test .taken) (c .before .before .before .before .before .before .before .before .before .before .before .before .before .before .before .before .before .before .before .before .pre .1) (c .before .before .before .before .before .before .before .before .before .before .before .before .before .read-on .result) (c .before .before .before .before .before .before .before .before .before .before .before .before .before .read-on .ensures) (c .before .before .before .before .before .before .before .before .before .before .before .if1 .taken))
-    (c .before .before .before .before .before .before .answer-line .result) _ _ _ _ _ (c .before .before .before .before .before .before .answer-line .ensures) (c .before .before .before .text .ensures) (c .put-row .ensures)
+    let t = row-written c in
+    let h = head (t .before) in
+    let l = h .before .loop in
+    let m = h .loop-test .taken in
+    let big = begin h .pre .1 in
+    let e = t .before .before .read-on .ensures in
+    let q = t .if1 .taken in
+    one-line _ _ _ _ _ _ _ _ _ _ _ _ (l .inv) m big _ _ (more t) (line-within _ _ _ _ _ _ _ _ _ _ _ _ (l .inv) m big _ e q) (line-run _ _ _ _ _ _ _ _ _ _ _ _ (l .inv) m big _ e q)
+    _ _ _ _ _ _ (c .before .before .before .before .before .before .answer-line .ensures) (c .before .before .before .text .ensures) (c .put-row .ensures)
+
+-- ---- the lines that stand whole after it
 
 add-whole-lines : tie.Need-add-whole-lines Inv-loop μ-loop
 add-whole-lines c =
-    let y = c .before .before .before .before .before .before .before .before .before .before .before .before .before .before .before .before .before .before .before .before .before .before .before .before .before .before .before .good in
-    omega (arith, c .before .before .before .before .before .before .before .before .before .before .before .before .before .before .before .before .before .before .before .before .before .before .loop .inv .out-kept, row-fits (c .before .before .before .before .before .before .before .before .before .before .before .before .before .before .before .before .before .before .before .before .before .before .before .before .before .before .before .args .chunk .now) (c .before .before .before .before .before .before .before .before .before .before .before .before .before .before .before .before .before .before .before .before .before .before .before .before .before .before .before .args .out .now) _ (c .before .before .before .before .before .before .before .before .before .before .before .before .before .before .before .before .before .before .before .before .before .before .loop .times) (c .before .before .before .before .before .before .before .before .before .before .before .before .before .before .before .before .before .before .before .before .before .before .loop .sizes) (c .before .before .before .before .before .before .before .before .before .before .before .before .before .before .before .before .before .before .before .before .before .before .loop .flags) (c .before .before .before .before .before .before .before .before .before .before .before .before .before .before .before .before .before .before .before .before .before .before .loop .out) (c .before .before .before .before .before .before .before .before .before .before .before .before .before .before .before .before .before .before .before .before .before .before .loop .line) (c .before .before .before .before .before .before .before .before .before .before .before .before .before .before .before .before .before .before .before .before .before .before .loop .len) (c .before .before .before .before .before .before .before .before .before .before .before .before .before .before .before .before .before .before .before .before .before .before .loop .session) (c .before .before .before .before .before .before .before .before .before .before .before .before .before .before .before .before .before .before .before .before .before .before .loop .w) (c .before .before .before .before .before .before .before .before .before .before .before .before .before .before .before .before .before .before .before .before .before .before .loop .i) (c .before .before .before .before .before .before .before .before .before .before .before .before .before .before .before .before .before .before .before .before .before .before .loop .inv) (c .before .before .before .before .before .before .before .before .before .before .before .before .before .before .before .before .before .before .before .before .before .loop-test .taken) (c .before .before .before .before .before .before .before .before .before .before .before .before .before .before .before .before .before .before .before .before .before .before .before .before .before .before .before .pre .1))
+    let t = row-written (c .before .before .before .before .before .before .before) in
+    let h = head (t .before) in
+    let y = begin h .good in
+    omega (arith, h .before .loop .inv .out-kept, fits t)
 
 whole-lines-requires : tie.Need-whole-lines-requires Inv-loop μ-loop
 whole-lines-requires c κs =
-    let t = turned (c .before .before .before .before .before .before .before) in (t .read, t .room, omega (arith, t .out-kept, c .before .before .before .before .before .before .before .before .before .before .before .before .before .before .before .before .before .before .before .before .before .before .before .before .before .before .before .pre .1))
+    let p = c .before .before .before .before .before .before .before in
+    let t = turned p in (t .read, t .room, omega (arith, t .out-kept, begin (head (row-written p .before)) .pre .1))
 
 loop-less : tie.Need-loop-less Inv-loop μ-loop
 loop-less c =
-    omega (arith, c .before .before .before .whole-lines .ensures .0, line-more (c .before .before .before .before .before .before .before .before .before .before .before .before .before .before .before .before .before .before .before .before .before .before .before .before .before .before .before .before .before .before .before .args .chunk .now) (c .before .before .before .before .before .before .before .before .before .before .before .before .before .before .before .before .before .before .before .before .before .before .before .before .before .before .before .before .before .before .before .args .out .now) _ (c .before .before .before .before .before .before .before .before .before .before .before .before .before .before .before .before .before .before .before .before .before .before .before .before .before .before .loop .times) (c .before .before .before .before .before .before .before .before .before .before .before .before .before .before .before .before .before .before .before .before .before .before .before .before .before .before .loop .sizes) (c .before .before .before .before .before .before .before .before .before .before .before .before .before .before .before .before .before .before .before .before .before .before .before .before .before .before .loop .flags) (c .before .before .before .before .before .before .before .before .before .before .before .before .before .before .before .before .before .before .before .before .before .before .before .before .before .before .loop .out) (c .before .before .before .before .before .before .before .before .before .before .before .before .before .before .before .before .before .before .before .before .before .before .before .before .before .before .loop .line) (c .before .before .before .before .before .before .before .before .before .before .before .before .before .before .before .before .before .before .before .before .before .before .before .before .before .before .loop .len) (c .before .before .before .before .before .before .before .before .before .before .before .before .before .before .before .before .before .before .before .before .before .before .before .before .before .before .loop .session) (c .before .before .before .before .before .before .before .before .before .before .before .before .before .before .before .before .before .before .before .before .before .before .before .before .before .before .loop .w) (c .before .before .before .before .before .before .before .before .before .before .before .before .before .before .before .before .before .before .before .before .before .before .before .before .before .before .loop .i) (c .before .before .before .before .before .before .before .before .before .before .before .before .before .before .before .before .before .before .before .before .before .before .before .before .before .before .loop .inv) (c .before .before .before .before .before .before .before .before .before .before .before .before .before .before .before .before .before .before .before .before .before .before .before .before .before .loop-test .taken) (c .before .before .before .before .before .before .before .before .before .before .before .before .before .before .before .before .before .before .before .before .before .before .before .before .before .before .before .before .before .before .before .pre .1) (c .before .before .before .before .before .before .before .before .before .before .before .before .before .before .before .before .before .before .before .before .before .before .before .before .read-on .result) (c .before .before .before .before .before .before .before .before .before .before .before .before .before .before .before .before .before .before .before .before .before .before .before .before .read-on .ensures) (c .before .before .before .before .before .before .before .before .before .before .before .before .before .before .before .before .before .before .before .before .before .before .if1 .taken), c .before .before .before .before .before .before .before .before .before .before .before .before .before .before .before .before .before .before .before .before .before .before .before .before .before .loop-test .taken)
+    let t = row-written (c .before .before .before .before .before .before .before .before .before .before .before) in
+    omega (arith, c .before .before .before .whole-lines .ensures .0, more t, head (t .before) .loop-test .taken)
 
 loop-again : tie.Need-loop-again Inv-loop μ-loop
 loop-again c =
     let w = c .before .before .before .whole-lines .ensures in
     go-on _ _ _ _ _ _ _ _ _ _ _ _ _ _ _ _ _ (turned (c .before .before .before .before .before .before .before .before .before .before .before)) (w .1) (w .2)
 
+-- ---- no line ended
+
+none : (c : tie.Else1 Inv-loop μ-loop) → (let h = head (c .before) in
+    let l = h .before .loop in
+    let a = begin h .args in
+    let n = c .before .before .read-on .result in
+    (l .i < n .read) × At (a .chunk .now) (a .out .now) (runs (startOf (a .state) (a .times .now) (a .sizes .now) (a .flags .now)) (a .chunk .now)) (l .times) (l .sizes) (l .flags) (l .out) (n .line) (n .len) (l .session) (l .w) (n .read))
+none c =
+    let h = head (c .before) in
+    no-line _ _ _ _ _ _ _ _ _ _ _ _ (h .before .loop .inv) (h .loop-test .taken) (begin h .pre .1) _ (c .before .before .read-on .ensures) (c .if1 .left)
+
 loop-less-2 : tie.Need-loop-less-2 Inv-loop μ-loop
-loop-less-2 c = omega (arith, no-line (c .before .before .before .before .before .before .before .before .before .args .chunk .now) (c .before .before .before .before .before .before .before .before .before .args .out .now) _ (c .before .before .before .before .loop .times) (c .before .before .before .before .loop .sizes) (c .before .before .before .before .loop .flags) (c .before .before .before .before .loop .out) (c .before .before .before .before .loop .line) (c .before .before .before .before .loop .len) (c .before .before .before .before .loop .session) (c .before .before .before .before .loop .w) (c .before .before .before .before .loop .i) (c .before .before .before .before .loop .inv) (c .before .before .before .loop-test .taken) (c .before .before .before .before .before .before .before .before .before .pre .1) (c .before .before .read-on .result) (c .before .before .read-on .ensures) (c .if1 .left) .0, c .before .before .before .loop-test .taken)
+loop-less-2 c = omega (arith, none c .0, head (c .before) .loop-test .taken)
 
 loop-again-2 : tie.Need-loop-again-2 Inv-loop μ-loop
-loop-again-2 c = no-line (c .before .before .before .before .before .before .before .before .before .args .chunk .now) (c .before .before .before .before .before .before .before .before .before .args .out .now) _ (c .before .before .before .before .loop .times) (c .before .before .before .before .loop .sizes) (c .before .before .before .before .loop .flags) (c .before .before .before .before .loop .out) (c .before .before .before .before .loop .line) (c .before .before .before .before .loop .len) (c .before .before .before .before .loop .session) (c .before .before .before .before .loop .w) (c .before .before .before .before .loop .i) (c .before .before .before .before .loop .inv) (c .before .before .before .loop-test .taken) (c .before .before .before .before .before .before .before .before .before .pre .1) (c .before .before .read-on .result) (c .before .before .read-on .ensures) (c .if1 .left) .1
+loop-again-2 c = none c .1
 
 same-length : tie.Need-same-length Inv-loop μ-loop
 same-length c = search needs
 
 returns : tie.Need-returns Inv-loop μ-loop
 returns c =
-    let l = c .before .loop in
-    let s = c .before .before .before .before .before .before in (
-      refl,
-      all-read (s .args .chunk .now) _ _ (l .times) (l .sizes) (l .flags) (l .out) (l .line) (l .len) (l .session) (l .w) (l .i) (l .inv) (c .loop-test .left) (s .pre .1),
-    )
+    let l = c .before .loop in (refl, all-read _ _ _ _ _ _ _ _ _ _ _ _ (l .inv) (c .loop-test .left) (c .before .before .before .before .before .before .pre .1))
 
 pub feed-all-spec : {M : Type 1} → statement M
 feed-all-spec =

@@ -5,17 +5,11 @@ use Rattle.call_list.specs.Feed.{kept, rowWidth}
 use lib.Seq.{length-take-le}
 use lib.ListN.{length}
 use native.Mathlib.Omega.{arith}
-use Prim.Native.Nat.{ℕ, _+_, _-_, _*_, _/_, _≤_, _<_}
-use mathlib.Core.Path.{_≡_, refl, sym, ap, _∙_}
+use Prim.Native.Nat.{_-_, _/_, _≤_, _<_}
+use mathlib.Core.Path.{_≡_, sym, ap, _∙_}
 use Rattle.call_list.proofs.Laying.{length-text}
 use Rattle.call_list.proofs.finish.Statement.{statement}
 use Rattle.call_list.proofs.finish.Tie as tie
-use Rattle.call_list.proofs.finish.Reads as reads
-use Rattle.call_list.proofs.finish.Lts as lts
-use Rattle.call_list.proofs.answer_line.Reads as answer-line-reads
-use Rattle.call_list.proofs.not_taken.Reads as not-taken-reads
-use Rattle.call_list.proofs.put_row.Reads as put-row-reads
-use Rattle.call_list.proofs.text.Reads as text-reads
 
 not-taken-requires : tie.Need-not-taken-requires
 not-taken-requires c κs = search needs

@@ -1,6 +1,5 @@
 use borrow.Author.Tests.{lt-ltb, le-ltb}
 use native.Mathlib.Omega.{arith}
-use mathlib.Core.Path.{_≡_}
 use Rattle.call_list.proofs.held.Statement.{statement}
 use Rattle.call_list.proofs.held.Tie as tie
 

@@ -1,21 +1,16 @@
 use borrow.Author.Needs.{needs}
 use borrow.Author.Tests.{lt-ltb, le-ltb}
 use lib.Seq.{getD-drop}
-use lib.ListN.{length, getD, drop, length-drop}
-use Prim.Native.Nat.{ℕ, _≤_, _<_}
-use mathlib.Core.Path.{_≡_}
+use lib.ListN.{length, drop, length-drop}
+use Prim.Native.Nat.{_≤_, _<_}
 use Rattle.call_list.specs.Feed.{width}
 use Rattle.call_list.specs.Pieces.{mayStand}
 use Rattle.call_list.proofs.may_stand.Statement.{statement}
 use Rattle.call_list.proofs.may_stand.Tie as tie
-use Rattle.call_list.proofs.may_stand.Reads as reads
-use Rattle.call_list.proofs.may_stand.Lts as lts
 
--- src/lib.rt:441:8
 sub-if1 : tie.Need-sub-if1
 sub-if1 c = search needs
 
--- src/lib.rt:442:9
 returns : tie.Need-returns
 unfolding mayStand
 returns c =
@@ -23,15 +18,12 @@ returns c =
     let h : length (drop (a .from) (a .chunk .now)) ≤ width = rw length-drop (c .if1 .taken) in
     simp (le-ltb _ _ h)
 
--- src/lib.rt:444:11
 add-result : tie.Need-add-result
 add-result c = search needs
 
--- src/lib.rt:444:5
 shared-slice-read-result : tie.Need-shared-slice-read-result
 shared-slice-read-result c = search needs
 
--- src/lib.rt:437:1
 returns-2 : tie.Need-returns-2
 unfolding mayStand
 returns-2 c =

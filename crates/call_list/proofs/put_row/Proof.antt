@@ -6,16 +6,13 @@ use native.Mathlib.Numerals.{add-one}
 use Rattle.call_list.specs.Pieces.{laid}
 use Rattle.call_list.proofs.Laying.{byte-laid, laid-twice}
 use Rattle.call_line.specs.Column.{column}
-use lib.ListN.{length, getD, take, drop, set, length-set, take-append-drop}
-use mathlib.Core.List.{List, [], _∷_, _++_}
+use lib.ListN.{length, getD, take, drop, length-set, take-append-drop}
+use mathlib.Core.List.{[], _∷_, _++_}
 use native.Mathlib.Omega.{arith}
-use Prim.Native.Nat.{ℕ, _+_, _-_, _*_, _/_, _≤_, _<_}
+use Prim.Native.Nat.{ℕ, _+_, _-_, _≤_, _<_}
 use mathlib.Core.Path.{_≡_, refl, sym, ap, _∙_}
 use Rattle.call_list.proofs.put_row.Statement.{statement}
 use Rattle.call_list.proofs.put_row.Tie as tie
-use Rattle.call_list.proofs.put_row.Reads as reads
-use Rattle.call_list.proofs.put_row.Lts as lts
-use Rattle.call_list.proofs.put_column.Reads as put-column-reads
 
 abbrev Inv-loop : tie.InvT-loop
 Inv-loop refusal text out₀ w k₀ out k =

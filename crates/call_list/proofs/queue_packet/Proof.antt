@@ -1,51 +1,38 @@
 use borrow.Author.Needs.{needs}
 use Rattle.call_list.specs.Answer.{packetQueued}
-use borrow.Author.Tests.{lt-ltb, le-ltb, le-leb, lt-leb, eq-eqb, ne-eqb}
-use mathlib.Core.Path.{_≡_, refl, sym, ap, _∙_}
+use borrow.Author.Tests.{lt-ltb, le-ltb}
+use mathlib.Core.Path.{refl}
 use Rattle.call_list.proofs.queue_packet.Statement.{statement}
 use Rattle.call_list.proofs.queue_packet.Tie as tie
-use Rattle.call_list.proofs.queue_packet.Reads as reads
-use Rattle.call_list.proofs.queue_packet.Lts as lts
-use Rattle.call_list.proofs.left.Reads as left-reads
 
--- src/lib.rt:177:9
 left-requires : tie.Need-left-requires
 left-requires c κs = search needs
 
--- src/lib.rt:177:9
 returns : tie.Need-returns
 unfolding packetQueued
 returns c = simp (le-ltb _ _ (c .before .if1 .taken)) (record { quiet = c .left .ensures; times = refl; sizes = refl; flags = refl })
 
--- src/lib.rt:179:5
 mul-times : tie.Need-mul-times
 mul-times c = search needs
 
--- src/lib.rt:179:5
 element-write-times : tie.Need-element-write-times
 element-write-times c = search needs
 
--- src/lib.rt:180:5
 mul-sizes : tie.Need-mul-sizes
 mul-sizes c = search needs
 
--- src/lib.rt:180:5
 element-write-sizes : tie.Need-element-write-sizes
 element-write-sizes c = search needs
 
--- src/lib.rt:181:5
 element-write-flags : tie.Need-element-write-flags
 element-write-flags c = search needs
 
--- src/lib.rt:182:13
 add-left : tie.Need-add-left
 add-left c = search needs
 
--- src/lib.rt:182:5
 left-requires-2 : tie.Need-left-requires-2
 left-requires-2 c κs = search needs
 
--- src/lib.rt:165:1
 returns-2 : tie.Need-returns-2
 unfolding packetQueued
 returns-2 c = simp (lt-ltb _ _ (c .before .if1 .left)) (record { quiet = c .left2 .ensures; times = refl; sizes = refl; flags = refl })

@@ -1,127 +1,95 @@
 use borrow.Author.Needs.{needs}
 use Rattle.call_list.specs.Answer.{callCalls, callQueued}
-use mathlib.Core.Path.{_≡_, refl, sym, ap, _∙_}
+use mathlib.Core.Path.{refl}
 use Rattle.call_list.proofs.quiet_call.Statement.{statement}
 use Rattle.call_list.proofs.quiet_call.Tie as tie
-use Rattle.call_list.proofs.quiet_call.Reads as reads
-use Rattle.call_list.proofs.quiet_call.Lts as lts
-use Rattle.call_list.proofs.calling.Reads as calling-reads
-use Rattle.call_list.proofs.left.Reads as left-reads
-use Rattle.call_list.proofs.queue_packet.Reads as queue-packet-reads
 
--- src/lib.rt:131:24
 enum-known-call : tie.Need-enum-known-call
 enum-known-call c = search needs
 
--- src/lib.rt:132:13
 queue-packet-requires : tie.Need-queue-packet-requires
 queue-packet-requires c κs = search needs
 
--- src/lib.rt:134:23
 enum-told : tie.Need-enum-told
 enum-told c = search needs
 
--- src/lib.rt:134:23
 left-requires : tie.Need-left-requires
 left-requires c κs = search needs
 
--- src/lib.rt:135:28
 enum-told-2 : tie.Need-enum-told-2
 enum-told-2 c = search needs
 
--- src/lib.rt:135:28
 calling-requires : tie.Need-calling-requires
 calling-requires c κs = search needs
 
--- src/lib.rt:136:30
 enum-told-3 : tie.Need-enum-told-3
 enum-told-3 c = search needs
 
--- src/lib.rt:136:30
 calling-requires-2 : tie.Need-calling-requires-2
 calling-requires-2 c κs = search needs
 
--- src/lib.rt:137:34
 enum-told-4 : tie.Need-enum-told-4
 enum-told-4 c = search needs
 
--- src/lib.rt:137:34
 calling-requires-3 : tie.Need-calling-requires-3
 calling-requires-3 c κs = search needs
 
--- src/lib.rt:138:27
 enum-told-5 : tie.Need-enum-told-5
 enum-told-5 c = search needs
 
--- src/lib.rt:138:27
 calling-requires-4 : tie.Need-calling-requires-4
 calling-requires-4 c κs = search needs
 
--- src/lib.rt:139:25
 enum-told-6 : tie.Need-enum-told-6
 enum-told-6 c = search needs
 
--- src/lib.rt:139:25
 calling-requires-5 : tie.Need-calling-requires-5
 calling-requires-5 c κs = search needs
 
--- src/lib.rt:140:32
 enum-told-7 : tie.Need-enum-told-7
 enum-told-7 c = search needs
 
--- src/lib.rt:140:32
 calling-requires-6 : tie.Need-calling-requires-6
 calling-requires-6 c κs = search needs
 
--- src/lib.rt:141:31
 enum-told-8 : tie.Need-enum-told-8
 enum-told-8 c = search needs
 
--- src/lib.rt:141:31
 calling-requires-7 : tie.Need-calling-requires-7
 calling-requires-7 c κs = search needs
 
--- src/lib.rt:121:1
 returns : tie.Need-returns
 unfolding callCalls callQueued
 returns c = rw (c .before .before .before .before .before .call .given .1) (c .queue-packet .ensures)
 
--- src/lib.rt:121:1
 returns-2 : tie.Need-returns-2
 unfolding callCalls callQueued
 returns-2 c = rw (c .before .enum-told .given .1) (record { quiet = c .left .ensures; times = refl; sizes = refl; flags = refl })
 
--- src/lib.rt:121:1
 returns-3 : tie.Need-returns-3
 unfolding callCalls callQueued
 returns-3 c = rw (c .before .enum-told2 .given .1) (record { quiet = c .calling .ensures; times = refl; sizes = refl; flags = refl })
 
--- src/lib.rt:121:1
 returns-4 : tie.Need-returns-4
 unfolding callCalls callQueued
 returns-4 c = rw (c .before .enum-told3 .given .1) (record { quiet = c .calling2 .ensures; times = refl; sizes = refl; flags = refl })
 
--- src/lib.rt:121:1
 returns-5 : tie.Need-returns-5
 unfolding callCalls callQueued
 returns-5 c = rw (c .before .enum-told4 .given .1) (record { quiet = c .calling3 .ensures; times = refl; sizes = refl; flags = refl })
 
--- src/lib.rt:121:1
 returns-6 : tie.Need-returns-6
 unfolding callCalls callQueued
 returns-6 c = rw (c .before .enum-told5 .given .1) (record { quiet = c .calling4 .ensures; times = refl; sizes = refl; flags = refl })
 
--- src/lib.rt:121:1
 returns-7 : tie.Need-returns-7
 unfolding callCalls callQueued
 returns-7 c = rw (c .before .enum-told6 .given .1) (record { quiet = c .calling5 .ensures; times = refl; sizes = refl; flags = refl })
 
--- src/lib.rt:121:1
 returns-8 : tie.Need-returns-8
 unfolding callCalls callQueued
 returns-8 c = rw (c .before .enum-told7 .given .1) (record { quiet = c .calling6 .ensures; times = refl; sizes = refl; flags = refl })
 
--- src/lib.rt:121:1
 returns-9 : tie.Need-returns-9
 unfolding callCalls callQueued
 returns-9 c = rw (c .before .enum-told8 .given .1) (record { quiet = c .calling7 .ensures; times = refl; sizes = refl; flags = refl })

@@ -2,14 +2,12 @@ use borrow.Author.Needs.{needs}
 use Rattle.call_list.proofs.Lines.{at-newline, at-byte, at-full, at-end}
 use Rattle.call_list.specs.Pieces.{nextOf}
 use Rattle.call_list.specs.Feed.{kept}
-use lib.ListN.{length, drop, set, length-set}
+use lib.ListN.{length, drop, length-set}
 use native.Mathlib.Omega.{arith}
-use Prim.Native.Nat.{ℕ, _+_, _-_, _*_, _/_, _≤_, _<_}
-use mathlib.Core.Path.{_≡_, refl, sym, ap, _∙_}
+use Prim.Native.Nat.{_-_, _≤_}
+use mathlib.Core.Path.{_≡_, sym, _∙_}
 use Rattle.call_list.proofs.read_on.Statement.{statement}
 use Rattle.call_list.proofs.read_on.Tie as tie
-use Rattle.call_list.proofs.read_on.Reads as reads
-use Rattle.call_list.proofs.read_on.Lts as lts
 
 abbrev Inv-loop : tie.InvT-loop
 Inv-loop len chunk from line₀ len₀ i₀ line len' i =

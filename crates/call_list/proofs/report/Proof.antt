@@ -1,38 +1,27 @@
 use borrow.Author.Needs.{needs}
 use Rattle.call_list.specs.Answer.{reportOf}
-use lib.ListN.{length, take}
 use lib.Seq.{length-take-le}
 use Rattle.call_list.proofs.Turning.{held-take}
 use native.Mathlib.Omega.{arith}
-use mathlib.Core.Path.{_≡_, refl, sym, ap, _∙_}
+use mathlib.Core.Path.{sym}
 use Rattle.call_list.proofs.report.Statement.{statement}
 use Rattle.call_list.proofs.report.Tie as tie
-use Rattle.call_list.proofs.report.Reads as reads
-use Rattle.call_list.proofs.report.Lts as lts
-use Rattle.call_list.proofs.held.Reads as held-reads
-use Rattle.loss_controller.proofs.LossController.update_bandwidth_estimate.Reads as update-bandwidth-estimate-reads
 
--- src/lib.rt:224:9
 held-requires : tie.Need-held-requires
 held-requires c κs = search needs
 
--- src/lib.rt:225:42
 slice-aggregate-update-bandwidth-estimate : tie.Need-slice-aggregate-update-bandwidth-estimate
 slice-aggregate-update-bandwidth-estimate c = sym (length-take-le _ _ (omega arith))
 
--- src/lib.rt:225:55
 slice-aggregate-update-bandwidth-estimate-2 : tie.Need-slice-aggregate-update-bandwidth-estimate-2
 slice-aggregate-update-bandwidth-estimate-2 c = sym (length-take-le _ _ (omega arith))
 
--- src/lib.rt:225:68
 slice-aggregate-update-bandwidth-estimate-3 : tie.Need-slice-aggregate-update-bandwidth-estimate-3
 slice-aggregate-update-bandwidth-estimate-3 c = sym (length-take-le _ _ (omega arith))
 
--- src/lib.rt:225:5
 update-bandwidth-estimate-requires : tie.Need-update-bandwidth-estimate-requires
 update-bandwidth-estimate-requires c κs = search needs
 
--- src/lib.rt:213:1
 returns : tie.Need-returns
 unfolding reportOf
 returns c =

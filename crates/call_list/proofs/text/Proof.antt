@@ -1,54 +1,40 @@
 use borrow.Author.Needs.{needs}
 use Rattle.call_list.specs.Answer.{textOf}
 use Rattle.call_list.proofs.Laying.{four-laid}
-use mathlib.Core.Path.{_≡_, refl, sym, ap, _∙_}
+use mathlib.Core.Path.{refl}
 use Rattle.call_list.proofs.text.Statement.{statement}
 use Rattle.call_list.proofs.text.Tie as tie
-use Rattle.call_list.proofs.text.Reads as reads
-use Rattle.call_list.proofs.text.Lts as lts
-use Rattle.call_list.proofs.put_column.Reads as put-column-reads
 
--- src/lib.rt:361:16
 slice-aggregate-put-column : tie.Need-slice-aggregate-put-column
 slice-aggregate-put-column c = search needs
 
--- src/lib.rt:361:33
 cast-put-column : tie.Need-cast-put-column
 cast-put-column c = search needs
 
--- src/lib.rt:361:5
 put-column-requires : tie.Need-put-column-requires
 put-column-requires c κs = search needs
 
--- src/lib.rt:362:16
 slice-aggregate-put-column-2 : tie.Need-slice-aggregate-put-column-2
 slice-aggregate-put-column-2 c = search needs
 
--- src/lib.rt:362:33
 cast-put-column-2 : tie.Need-cast-put-column-2
 cast-put-column-2 c = search needs
 
--- src/lib.rt:362:5
 put-column-requires-2 : tie.Need-put-column-requires-2
 put-column-requires-2 c κs = search needs
 
--- src/lib.rt:363:16
 slice-aggregate-put-column-3 : tie.Need-slice-aggregate-put-column-3
 slice-aggregate-put-column-3 c = search needs
 
--- src/lib.rt:363:5
 put-column-requires-3 : tie.Need-put-column-requires-3
 put-column-requires-3 c κs = search needs
 
--- src/lib.rt:364:16
 slice-aggregate-put-column-4 : tie.Need-slice-aggregate-put-column-4
 slice-aggregate-put-column-4 c = search needs
 
--- src/lib.rt:364:5
 put-column-requires-4 : tie.Need-put-column-requires-4
 put-column-requires-4 c κs = search needs
 
--- src/lib.rt:357:1
 returns : tie.Need-returns
 unfolding textOf
 returns c =

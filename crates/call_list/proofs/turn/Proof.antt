@@ -1,28 +1,19 @@
 use borrow.Author.Needs.{needs}
 use Rattle.call_list.proofs.Turning.{loudly, quietly}
-use mathlib.Core.Path.{_≡_, refl, sym, ap, _∙_}
 use Rattle.call_list.proofs.turn.Statement.{statement}
 use Rattle.call_list.proofs.turn.Tie as tie
-use Rattle.call_list.proofs.turn.Reads as reads
-use Rattle.call_list.proofs.turn.Lts as lts
-use Rattle.call_list.proofs.called.Reads as called-reads
-use Rattle.call_list.proofs.quiet_line.Reads as quiet-line-reads
 
--- src/lib.rt:313:9
 quiet-line-requires : tie.Need-quiet-line-requires
 quiet-line-requires c κs = search needs
 
--- src/lib.rt:316:9
 called-requires : tie.Need-called-requires
 called-requires c κs = search needs
 
--- src/lib.rt:316:9
 returns : tie.Need-returns
 returns c =
     let a = c .before .before .before .before .before .before .before .before .before .args in
     rw (c .called .ensures) (loudly (a .session) (a .times .now) (a .sizes .now) (a .flags .now) (a .line) _ _ _ _ (c .before .before .before .before .before .quiet-line .ensures) (c .before .before .before .before .if1 .taken))
 
--- src/lib.rt:303:1
 returns-2 : tie.Need-returns-2
 returns-2 c =
     let a = c .before .before .before .before .before .before .before .args in

@@ -1,11 +1,10 @@
 -- `whole_lines` meets its contract: each line is a turn of `one-line`. Assumes nothing.
 use Prim.Native.Nat.{ℕ, _+_, _-_, _≤_, _<_}
 use mathlib.Core.Path.{_≡_, refl, sym, ap, _∙_}
-use mathlib.Core.List.{List}
 use mathlib.Core.Logic.{⊎-elim}
 use native.Mathlib.Omega.{arith}
 use borrow.Author.Needs.{needs}
-use borrow.Author.Tests.{not-true, not-false}
+use borrow.Author.Tests.{not-false}
 use lib.ListN.{length, take, drop}
 use Rattle.call_line.specs.Line.{lineOf}
 use Rattle.call_line.specs.declared.Call.{Call}
@@ -18,16 +17,6 @@ use Rattle.call_list.proofs.Feeding.{stands-within, row-fits, line-stan
 use Rattle.call_list.proofs.Turning.{Leaves, call-loudly, call-quietly, same-is}
 use Rattle.call_list.proofs.whole_lines.Statement.{statement}
 use Rattle.call_list.proofs.whole_lines.Tie as tie
-use Rattle.call_list.proofs.whole_lines.Reads as reads
-use Rattle.call_list.proofs.whole_lines.Lts as lts
-use Rattle.call_line.proofs.read_line.Reads as read-line-reads
-use Rattle.call_list.proofs.control_call.Reads as control-call-reads
-use Rattle.call_list.proofs.may_stand.Reads as may-stand-reads
-use Rattle.call_list.proofs.put_row.Reads as put-row-reads
-use Rattle.call_list.proofs.quiet_call.Reads as quiet-call-reads
-use Rattle.call_list.proofs.read.Reads as read-reads
-use Rattle.call_list.proofs.same.Reads as same-reads
-use Rattle.call_list.proofs.text.Reads as text-reads
 
 abbrev Inv-loop : tie.InvT-loop
 Inv-loop times₀ sizes₀ flags₀ chunk from out₀ written controller₀ reading₀ queued₀ row₀ w₀ i₀ times sizes flags out controller reading queued row w i =
@@ -38,6 +27,23 @@ Inv-loop times₀ sizes₀ flags₀ chunk from out₀ written controller₀ read
 abbrev μ-loop : tie.MeasureT-loop
 μ-loop times₀ sizes₀ flags₀ chunk from out₀ written controller₀ reading₀ queued₀ row₀ w₀ i₀ times sizes flags out controller reading queued row w i =
     length chunk - i
+
+-- ---- the stages of a turn
+
+abbrev Turn : Type 0
+Turn = tie.Joined2 Inv-loop μ-loop
+
+abbrev begin : tie.At-loop Inv-loop μ-loop → tie.Start Inv-loop μ-loop
+begin h = h .before .before .before .before .before .before
+
+abbrev head : tie.Then1 Inv-loop μ-loop → tie.At-loop Inv-loop μ-loop
+head c = c .before .before
+
+abbrev stood : Turn → tie.Then1 Inv-loop μ-loop
+stood j = j .before .before .before .before .before .before .before .before .before .before
+
+abbrev call : Turn → Call
+call j = j .before .before .before .before .before .before .call .given .0 .0
 
 text-requires : tie.Need-text-requires Inv-loop μ-loop
 text-requires c κs = search needs
@@ -55,7 +61,7 @@ may-stand-requires : tie.Need-may-stand-requires Inv-loop μ-loop
 may-stand-requires c κs = c .loop .inv .3 .read
 
 -- a line that may stand there has its newline within the chunk
-within : (c : tie.Then1 Inv-loop μ-loop) → c .before .before .loop .i + width < length (c .before .before .before .before .before .before .before .before .args .chunk .now)
+within : (c : tie.Then1 Inv-loop μ-loop) → head c .loop .i + width < length (begin (head c) .args .chunk .now)
 within c = stands-within _ _ (sym (c .before .may-stand .ensures) ∙ c .if1 .taken)
 
 add-end : tie.Need-add-end Inv-loop μ-loop
@@ -91,36 +97,34 @@ same-requires c κs = search needs
 text-requires-2 : tie.Need-text-requires-2 Inv-loop μ-loop
 text-requires-2 c κs = search needs
 
--- what holds at the end of a turn
-abbrev call : tie.Joined2 Inv-loop μ-loop → Call
-call j = j .before .before .before .before .before .before .call .given .0 .0
+-- ---- what holds at its end
 
-fits : (j : tie.Joined2 Inv-loop μ-loop) → j .before .before .before .before .before .before .before .before .before .before .before .before .loop .w + rowWidth ≤ length (j .before .before .before .before .before .before .before .before .before .before .before .before .loop .out)
-fits j = row-fits _ _ _ _ _ _ _ _ _ _ _ _ (j .before .before .before .before .before .before .before .before .before .before .before .before .loop .inv .3) (omega (arith, within (j .before .before .before .before .before .before .before .before .before .before))) (j .before .before .before .before .before .before .before .before .before .before .before .before .before .before .before .before .before .before .pre .2)
+fits : (j : Turn) → head (stood j) .loop .w + rowWidth ≤ length (head (stood j) .loop .out)
+fits j = row-fits _ _ _ _ _ _ _ _ _ _ _ _ (head (stood j) .loop .inv .3) (omega (arith, within (stood j))) (begin (head (stood j)) .pre .2)
 
-text-told : (j : tie.Joined2 Inv-loop μ-loop) → j .if2 .row ≡ textOf (j .if2 .reading)
+text-told : (j : Turn) → j .if2 .row ≡ textOf (j .if2 .reading)
 text-told j =
+    let t = head (stood j) .loop .inv .2 in
     ⊎-elim (λ a. a .12 ∙ a .9 .ensures ∙ sym (ap textOf (a .11)))
-    (⊎-elim (λ b. b .11 ∙ j .before .before .before .before .before .before .before .before .before .before .before .before .loop .inv .2 ∙ sym (ap textOf (b .10))) (λ c. c .3 ∙ j .before .before .before .before .before .before .before .before .before .before .before .before .loop .inv .2 ∙ sym (ap textOf (c .2))))
+    (⊎-elim (λ b. b .11 ∙ t ∙ sym (ap textOf (b .10))) (λ c. c .3 ∙ t ∙ sym (ap textOf (c .2))))
     (j .if2 .came)
 
-text-long : (j : tie.Joined2 Inv-loop μ-loop) → length (j .if2 .row) ≡ 45
+text-long : (j : Turn) → length (j .if2 .row) ≡ 45
 text-long j = ap length (text-told j) ∙ length-text _
 
 leaves :
-    (j : tie.Joined2 Inv-loop μ-loop)
-    → Leaves (record { controller = j .before .before .before .before .before .before .before .before .before .before .before .before .loop .controller; reading = j .before .before .before .before .before .before .before .before .before .before .before .before .loop .reading; queued = j .before .before .before .before .before .before .before .before .before .before .before .before .loop .queued })
-    (j .before .before .before .before .before .before .before .before .before .before .before .before .loop .times) (j .before .before .before .before .before .before .before .before .before .before .before .before .loop .sizes) (j .before .before .before .before .before .before .before .before .before .before .before .before .loop .flags) (call j) (j .before .quiet-call .result) (j .before .quiet-call .last .1 .0) (j .before .quiet-call .last .1 .1 .0) (j .before .quiet-call .last .1 .1 .1 .0) (j .before .quiet-call .ensures)
-    (j .if2 .controller) (j .if2 .reading) (j .if2 .refusal)
-leaves j =
-    let l = j .before .before .before .before .before .before .before .before .before .before .before .before .loop in
+    (j : Turn)
+    → (let l = head (stood j) .loop in
     let k = j .before .quiet-call in
-    let loud = call-loudly (record { controller = l .controller; reading = l .reading; queued = l .queued }) (l .times) (l .sizes) (l .flags) (call j) (k .result) (k .last .1 .0) (k .last .1 .1 .0) (k .last .1 .1 .1 .0) (k .ensures) (j .if2 .controller) (j .if2 .reading) (j .if2 .refusal) in
-    let quiet = call-quietly (record { controller = l .controller; reading = l .reading; queued = l .queued }) (l .times) (l .sizes) (l .flags) (call j) (k .result) (k .last .1 .0) (k .last .1 .1 .0) (k .last .1 .1 .1 .0) (k .ensures) (j .if2 .controller) (j .if2 .reading) (j .if2 .refusal) in
-    ⊎-elim (λ a. loud (a .0 .taken) (a .4 .result) (a .4 .ensures) (a .10) (a .11 ∙ a .6 .ensures) (a .13))
+    Leaves (record { controller = l .controller; reading = l .reading; queued = l .queued }) (l .times) (l .sizes) (l .flags)
+    (call j) (k .result) (k .last .1 .0) (k .last .1 .1 .0) (k .last .1 .1 .1 .0) (k .ensures)
+    (j .if2 .controller) (j .if2 .reading) (j .if2 .refusal))
+leaves j =
+    let h = j .before .quiet-call .ensures in
+    ⊎-elim (λ a. call-loudly _ _ _ _ (call j) _ _ _ _ h _ _ _ (a .0 .taken) (a .4 .result) (a .4 .ensures) (a .10) (a .11 ∙ a .6 .ensures) (a .13))
     (⊎-elim
-    (λ b. loud (b .0 .taken) (b .4 .result) (b .4 .ensures) (b .9) (b .10 ∙ same-is _ _ (sym (b .7 .ensures) ∙ not-false _ (b .8 .left)) ∙ b .6 .ensures) (b .12))
-    (λ c. quiet (c .0 .left) (c .1) (c .2) (c .4)))
+    (λ b. call-loudly _ _ _ _ (call j) _ _ _ _ h _ _ _ (b .0 .taken) (b .4 .result) (b .4 .ensures) (b .9) (b .10 ∙ same-is _ _ (sym (b .7 .ensures) ∙ not-false _ (b .8 .left)) ∙ b .6 .ensures) (b .12))
+    (λ c. call-quietly _ _ _ _ (call j) _ _ _ _ h _ _ _ (c .0 .left) (c .1) (c .2) (c .4)))
     (j .if2 .came)
 
 slice-aggregate-put-row : tie.Need-slice-aggregate-put-row Inv-loop μ-loop
@@ -129,36 +133,42 @@ slice-aggregate-put-row c = sym (text-long (c .before))
 put-row-requires : tie.Need-put-row-requires Inv-loop μ-loop
 put-row-requires c κs = (text-long (c .before .before), fits (c .before .before))
 
+-- ---- the next turn
+
+abbrev turn : tie.After-slice-known2 Inv-loop μ-loop → Turn
+turn c = c .before .before .before .before .before
+
 add-w : tie.Need-add-w Inv-loop μ-loop
 add-w c =
-    let y = c .before .before .before .before .before .before .before .before .before .before .before .before .before .before .before .before .before .before .before .before .before .before .before .good in
-    let k = c .before .before .before .before .before .before .before .before .before .before .before .before .before .before .before .before .before .loop .inv .3 .out-kept in
-    omega (arith, k, fits (c .before .before .before .before .before))
+    let h = head (stood (turn c)) in
+    let y = begin h .good in
+    omega (arith, h .loop .inv .3 .out-kept, fits (turn c))
 
 add-i : tie.Need-add-i Inv-loop μ-loop
 add-i c =
-    let y = c .before .before .before .before .before .before .before .before .before .before .before .before .before .before .before .before .before .before .before .before .before .before .before .good in
-    omega (arith, within (c .before .before .before .before .before .before .before .before .before .before .before .before .before .before .before))
+    let y = begin (head (stood (turn c))) .good in
+    omega (arith, within (stood (turn c)))
 
 loop-less : tie.Need-loop-less Inv-loop μ-loop
-loop-less c = omega (arith, within (c .before .before .before .before .before .before .before .before .before .before .before .before .before .before .before))
+loop-less c = omega (arith, within (stood (turn c)))
 
 loop-again : tie.Need-loop-again Inv-loop μ-loop
 loop-again c =
-    let j = c .before .before .before .before .before in
-    let l = j .before .before .before .before .before .before .before .before .before .before .before .before .loop in
-    let a = j .before .before .before .before .before .before .before .before .before .before .before .before .before .before .before .before .before .before .args in
-    let n = within (j .before .before .before .before .before .before .before .before .before .before) in
+    let j = turn c in
+    let l = head (stood j) .loop in
+    let chunk = begin (head (stood j)) .args .chunk .now in
+    let n = within (stood j) in
+    let m : l .i < length chunk = omega (arith, n) in
+    let big = begin (head (stood j)) .pre .2 in
     let k : l .i + width - l .i ≡ width = omega arith in
-    let e = sym (j .before .before .before .before .before .before .before .before .before .before .before .may-stand .ensures) ∙ j .before .before .before .before .before .before .before .before .before .before .if1 .taken in
-    let t = ap (λ (x : ℕ). lineOf (take x (drop (l .i) (a .chunk .now)))) (sym k) ∙ sym (j .before .before .before .before .before .before .before .before .read-line .ensures) ∙ j .before .before .before .before .before .before .call .given .1 in (
+    let e = sym (stood j .before .may-stand .ensures) ∙ stood j .if1 .taken in
+    let t = ap (λ (x : ℕ). lineOf (take x (drop (l .i) chunk))) (sym k) ∙ sym (j .before .before .before .before .before .before .before .before .read-line .ensures) ∙ j .before .before .before .before .before .before .call .given .1 in (
       omega (arith, n),
       omega arith,
       text-told j,
-      one-line (a .chunk .now) (a .out .now) _ (l .times) (l .sizes) (l .flags) (l .out) blank 0 _ (l .w) (l .i) (l .inv .3) (omega (arith, n)) (j .before .before .before .before .before .before .before .before .before .before .before .before .before .before .before .before .before .before .pre .2) (Taken (call j)) (l .i + width + 1) (omega arith) (omega (arith, n))
-          (line-stands (a .chunk .now) (a .out .now) _ (l .times) (l .sizes) (l .flags) (l .out) blank 0 _ (l .w) (l .i) (l .inv .3) (omega (arith, n)) (j .before .before .before .before .before .before .before .before .before .before .before .before .before .before .before .before .before .before .pre .2) (call j) e refl t)
-          (record { session = record { controller = j .if2 .controller; reading = j .if2 .reading; queued = j .before .quiet-call .result .queued }; answer = record { refusal = j .if2 .refusal; reading = j .if2 .reading } })
-          _ _ _ _ _ (leaves j) (text-told j) (c .before .before .put-row .ensures),
+      one-line _ _ _ _ _ _ _ _ _ _ _ _ (l .inv .3) m big (Taken (call j)) (l .i + width + 1) (omega arith) (omega (arith, n))
+          (line-stands _ _ _ _ _ _ _ _ _ _ _ _ (l .inv .3) m big (call j) e refl t)
+          _ _ _ _ _ _ (leaves j) (text-told j) (c .before .before .put-row .ensures),
     )
 
 same-length : tie.Need-same-length Inv-loop μ-loop
