@@ -7,6 +7,7 @@ use native.Mathlib.Omega.{arith}
 use borrow.Author.Tests.{eqb-true}
 use lib.Dec.{eqb}
 use lib.ListN.{getD}
+use Rattle.float.proofs.Both.{both}
 use Rattle.loss_controller.specs.Setters.{timeRefusal}
 use Rattle.call_line.specs.declared.Fields.{Fields}
 use Rattle.call_line.specs.declared.Fields.the-variants.{Read as Fields·Read, Unreadable}
@@ -16,10 +17,6 @@ use Rattle.call_line.specs.declared.Line.the-variants.{Taken, Refused, R
 use Rattle.call_line.specs.Column.{row}
 use Rattle.call_line.specs.Line.{widths, fieldsOf, inTable, rateCode, unlessRefused, byFlag, reportOf, alrOf, capacityOf, packetOf, callOf, valuesOf, checked, lineOf}
 use Rattle.call_line.proofs.RoundTrip.{Fits, line-written, line-read}
-
-both : (t u : Bool) → t && u ≡ true → (t ≡ true) × (u ≡ true)
-both true u e = (refl, e)
-both false u e = absurd (true≢false (sym e))
 
 two-zeros : (b c : ℕ) → eqb b 0 && eqb c 0 ≡ true → (b ≡ 0) × (c ≡ 0)
 two-zeros b c e = let h = both (eqb b 0) (eqb c 0) e in (eqb-true b 0 (h .0), eqb-true c 0 (h .1))

@@ -1,7 +1,7 @@
 -- What a column says, byte by byte: the laws of its reading. Assumes nothing.
 use Prim.Native.Nat.{ℕ, zero, suc, _+_, _-_, _*_, _^_, _≤_, _<_}
 use mathlib.Core.Path.{_≡_, refl}
-use mathlib.Core.Bool.{Bool, true, false, cond, _&&_, true≢false}
+use mathlib.Core.Bool.{Bool, true, false, cond, true≢false}
 use mathlib.Core.List.{List, [], _∷_}
 use native.Mathlib.Nat.{add-zero, pow-suc, pow-le-pow-right}
 use native.Mathlib.Numerals.{add-one}
@@ -10,6 +10,7 @@ use borrow.Author.Tests.{leb-true, lt-ltb, le-ltb, eq-eqb, ne-eqb, eqb-true}
 use lib.Dec.{eqb, leb, lit<}
 use lib.ListN.{length, getD, drop, drop-of-length-le}
 use lib.Seq.{drop-cons}
+use Rattle.float.proofs.Both.{both}
 use Rattle.call_line.specs.declared.Number.the-variants.{Value, Wrong}
 use Rattle.call_line.specs.Column.{asciiNine, asciiSpace, asciiZero, isDigit, more, afterZero, digitsOf, leadingSpaces}
 
@@ -64,12 +65,8 @@ more-end s i v h = simp (drop-of-length-le s h)
 
 pub digit-bounds : (b : ℕ) → isDigit b ≡ true → (asciiZero ≤ b) × (b ≤ asciiNine)
 unfolding isDigit
-digit-bounds b e = pick (leb asciiZero b) (leb b asciiNine) refl refl e
-  where
-    pick : (t u : Bool) → leb asciiZero b ≡ t → leb b asciiNine ≡ u → t && u ≡ true → (asciiZero ≤ b) × (b ≤ asciiNine)
-    pick true true p q r = (leb-true _ _ p, leb-true _ _ q)
-    pick true false p q r = let z : true ≡ false = cc in absurd (true≢false z)
-    pick false u p q r = let z : true ≡ false = cc in absurd (true≢false z)
+digit-bounds b e =
+    let h = both (leb asciiZero b) (leb b asciiNine) e in (leb-true _ _ (h .0), leb-true _ _ (h .1))
 
 -- 19 digits fit 64 bits: those before the place i make v, and b is there
 pub digits-fit :

@@ -4,10 +4,8 @@ use mathlib.Core.Bool.{Bool, false, cond, _&&_, _||_, not}
 use mathlib.Core.List.{List, [], _∷_}
 use lib.Dec.{eqb, leb}
 use lib.ListN.{length, getD}
-use Rattle.float.specs.Rounded.{bits}
-use Rattle.bandwidth.specs.Rate.{rate}
 use Rattle.packets.specs.Summary.{packetRefusal, largestPacket}
-use Rattle.loss_controller.specs.Setters.{rateRefusal, timeRefusal}
+use Rattle.loss_controller.specs.Setters.{rateOf, rateRefusal, timeRefusal}
 use Rattle.call_line.specs.declared.Number.{Number}
 use Rattle.call_line.specs.declared.Number.the-variants.{Value, Wrong}
 use Rattle.call_line.specs.declared.Fields.{Fields}
@@ -68,7 +66,7 @@ inTable kind a b c = allowed (ruleOf kind) a b c
 
 -- code 2 of a rate's 64 bits
 abbrev pub rateCode : ℕ → ℕ
-rateCode n = rateRefusal (rate (bits n))
+rateCode n = rateRefusal (rateOf n)
 
 -- a call whose argument is not refused
 unfoldable pub unlessRefused : ℕ → Call → Line

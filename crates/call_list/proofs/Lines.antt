@@ -1,7 +1,7 @@
 -- The next line of a chunk. Assumes nothing.
 use Prim.Native.Nat.{ℕ, zero, suc, _+_, _-_, _≤_, _<_}
-use mathlib.Core.Path.{_≡_, refl, sym, ap, _∙_}
-use mathlib.Core.Bool.{Bool, true, false, _&&_, true≢false}
+use mathlib.Core.Path.{_≡_, sym, ap, _∙_}
+use mathlib.Core.Bool.{true, false}
 use mathlib.Core.List.{List, [], _∷_, _++_, append-assoc, append-nil}
 use native.Mathlib.Numerals.{add-one}
 use native.Mathlib.Omega.{arith}
@@ -9,6 +9,7 @@ use borrow.Author.Tests.{lt-ltb, le-ltb, eq-eqb, ne-eqb, eqb-true, ltb-true}
 use lib.Dec.{eqb, ltb}
 use lib.ListN.{length, getD, take, drop, set, length-set, length-take, drop-of-length-le, take-append-drop}
 use lib.Seq.{drop-cons, take-suc-set}
+use Rattle.float.proofs.Both.{both}
 use Rattle.call_line.specs.Line.{lineOf}
 use Rattle.call_line.proofs.Clear.{Clear, taken-clear}
 use Rattle.call_line.specs.declared.Call.{Call}
@@ -64,12 +65,8 @@ run-all (b ∷ a) t r c l p =
 module _ (s : List ℕ) (e : mayStand s ≡ true) where
   stands : (width < length s) × (getD s width 0 ≡ 10)
   unfolding mayStand
-  stands = pick (ltb width (length s)) (eqb (getD s width 0) 10) refl refl e
-    where
-      pick : (a b : Bool) → ltb width (length s) ≡ a → eqb (getD s width 0) 10 ≡ b → (a && b) ≡ true → (width < length s) × (getD s width 0 ≡ 10)
-      pick true true x y k = (ltb-true width (length s) x, eqb-true (getD s width 0) 10 y)
-      pick true false x y k = absurd (true≢false (sym k))
-      pick false b x y k = absurd (true≢false (sym k))
+  stands =
+      let h = both (ltb width (length s)) (eqb (getD s width 0) 10) e in (ltb-true _ _ (h .0), eqb-true _ _ (h .1))
 
   pub long : width < length s
   long = stands .0

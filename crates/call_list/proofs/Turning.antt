@@ -8,6 +8,7 @@ use borrow.Author.Tests.{eqb-true, ltb-true}
 use lib.Dec.{eqb, ltb}
 use lib.ListN.{length, take}
 use lib.Seq.{take-all}
+use Rattle.float.proofs.Both.{both}
 use Rattle.loss_controller.specs.declared.LossController.{LossController}
 use Rattle.loss_controller.specs.declared.ControllerAnswer.{ControllerAnswer}
 use Rattle.call_line.specs.declared.Call.{Call}
@@ -129,19 +130,7 @@ module _
 pub same-is : (a b : Reading) → sameReading a b ≡ true → a ≡ b
 unfolding sameReading
 same-is a b e =
-    pick (eqb (a .rate) (b .rate)) (eqb (a .«inherent_loss») (b .«inherent_loss»)) (eqb (a .state) (b .state)) (eqb (a .published) (b .published))
-    refl refl refl refl e
-  where
-    pick :
-        (r l t p : Bool) → eqb (a .rate) (b .rate) ≡ r → eqb (a .«inherent_loss») (b .«inherent_loss») ≡ l
-        → eqb (a .state) (b .state) ≡ t → eqb (a .published) (b .published) ≡ p → (r && (l && (t && p))) ≡ true → a ≡ b
-    pick true true true true r l t p k =
-        let x = eqb-true (a .rate) (b .rate) r in
-        let y = eqb-true (a .«inherent_loss») (b .«inherent_loss») l in
-        let z = eqb-true (a .state) (b .state) t in
-        let w = eqb-true (a .published) (b .published) p in
-        rw (x, y, z, w)
-    pick false l t p x y z w k = absurd (true≢false (sym k))
-    pick true false t p x y z w k = absurd (true≢false (sym k))
-    pick true true false p x y z w k = absurd (true≢false (sym k))
-    pick true true true false x y z w k = absurd (true≢false (sym k))
+    let r = both (eqb (a .rate) (b .rate)) (eqb (a .«inherent_loss») (b .«inherent_loss») && (eqb (a .state) (b .state) && eqb (a .published) (b .published))) e in
+    let l = both (eqb (a .«inherent_loss») (b .«inherent_loss»)) (eqb (a .state) (b .state) && eqb (a .published) (b .published)) (r .1) in
+    let p = both (eqb (a .state) (b .state)) (eqb (a .published) (b .published)) (l .1) in
+    rw (eqb-true (a .rate) (b .rate) (r .0), eqb-true (a .«inherent_loss») (b .«inherent_loss») (l .0), eqb-true (a .state) (b .state) (p .0), eqb-true (a .published) (b .published) (p .1))

@@ -6,14 +6,13 @@ use mathlib.Core.List.{List, [], _∷_, _++_}
 use lib.Dec.{ltb}
 use lib.Ieee.{binary64, toBits}
 use lib.ListN.{take, set}
-use Rattle.float.specs.Rounded.{bits}
 use Rattle.bandwidth.specs.Rate.{rate}
 use Rattle.bandwidth.specs.declared.Bitrate.{Bitrate}
 use Rattle.bandwidth.specs.declared.OptionBitrate.{OptionBitrate}
 use Rattle.bandwidth.specs.declared.OptionBitrate.the-variants.{Some, None}
 use Rattle.estimator.specs.State.{number}
 use Rattle.loss_controller.specs.Controller.{answered}
-use Rattle.loss_controller.specs.Setters.{setBandwidthEstimate, setAcknowledgedBitrate, setAlrStartTime, setLinkCapacityEstimate}
+use Rattle.loss_controller.specs.Setters.{rateOf, setBandwidthEstimate, setAcknowledgedBitrate, setAlrStartTime, setLinkCapacityEstimate}
 use Rattle.loss_controller.specs.Report.{updateBandwidthEstimate}
 use Rattle.loss_controller.specs.Result.{lossBasedResult, inherentLoss}
 use Rattle.loss_controller.specs.declared.OptionInstant.the-variants.{Some as On, None as Off}
@@ -90,9 +89,6 @@ lineQueued q (Refused refusal) = left refusal q
 lineQueued q (ReportRefused refusal) = left refusal (emptied q)
 
 -- ---- the controller
-
-abbrev pub rateOf : ℕ → Bitrate
-rateOf n = rate (bits n)
 
 -- whether a call is one of the controller's that may change it
 unfoldable pub callCalls : Call → Bool

@@ -5,6 +5,7 @@ ghost use mathlib.Core.Bool.{true, false};
 ghost use Prim.Native.Nat.{_+_, _-_, _*_, _≤_};
 ghost use mathlib.Core.List.{_++_};
 ghost use lib.ListN.{length, take, drop};
+ghost use Rattle.loss_controller.specs.Setters.{rateOf};
 ghost use Rattle.call_line.specs.Column.{column};
 ghost use Rattle.call_line.specs.Line.{lineOf};
 ghost use Rattle.call_list.specs.Answer as Answers;
@@ -186,7 +187,7 @@ fn queue_packet(
 // ---- the controller
 
 fn rate(bits: u64) -> Bitrate
-    ensures { λ r. ⌜ r ≡ Answers.rateOf bits ⌝ }
+    ensures { λ r. ⌜ r ≡ rateOf bits ⌝ }
 {
     Bitrate::from_f64(float::from_bits(bits))
 }

@@ -4,3 +4,4 @@ pub mod Parts
 pub mod Limits
 pub mod Fold
 pub mod Refusal
+pub mod Both

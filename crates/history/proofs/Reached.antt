@@ -6,7 +6,7 @@ use mathlib.Core.Bool.{Bool, true, false}
 use mathlib.Core.Option.{Option, none, some}
 use native.Mathlib.Omega.{arith}
 use borrow.Author.Tests.{le-leb}
-use lib.Dec.{T, eqb, leb}
+use lib.Dec.{T, eqb}
 use lib.IntN.{ℤ}
 use lib.Ieee.{Float, nan, inf, fin, binary64, le, lt, toBits}
 use lib.Ieee.Bits.{ofBits-fits}
@@ -33,9 +33,10 @@ use Rattle.loss_controller.specs.Controller.{initial, refused}
 use Rattle.loss_controller.specs.Setters as Setters
 use Rattle.loss_controller.specs.Report as Report
 use Rattle.loss_controller.specs.declared.LossController.{LossController}
+use Rattle.loss_controller.specs.Setters.{rateOf}
 use Rattle.history.specs.Calls.{acknowledged, capacity, report}
 use Rattle.history.specs.History.{History, reported}
-use Rattle.history.specs.Run.{rateOf, capacityOf}
+use Rattle.history.specs.Run.{capacityOf}
 use Rattle.history.proofs.NotNegative.{Holds, NotNegative, HoldsRate, minimum-fits, maximum-fits}
 use Rattle.history.proofs.Tied.{Tied}
 use Rattle.history.proofs.Weighed.{tied-reported, tied-readable}

@@ -1,11 +1,12 @@
 -- Over every list of calls each is refused exactly where document 01 says. Assumes nothing.
 use Prim.Native.Nat.{ℕ, _+_, _*_, _^_, _≤_}
 use mathlib.Core.Path.{_≡_, refl, sym, ap, _∙_, subst}
-use mathlib.Core.Bool.{Bool, true, false, cond, true≢false, _&&_, Bool·beq}
+use mathlib.Core.Bool.{Bool, true, false, cond, _&&_, Bool·beq}
 use mathlib.Core.List.{List}
 use native.Mathlib.Omega.{arith}
 use borrow.Author.Tests.{eqb-true}
 use lib.Dec.{T, eqb}
+use Rattle.float.proofs.Both.{both}
 use Rattle.float.specs.declared.FloatAnswer.{FloatAnswer}
 use Rattle.float.proofs.Refusal.{either, tested, checked as checked-by}
 use Rattle.bandwidth.specs.declared.Bitrate.{Bitrate}
@@ -26,10 +27,11 @@ use Rattle.loss_controller.specs.declared.OptionInstant.{OptionInstant}
 use Rattle.loss_controller.specs.declared.Inputs.{Inputs}
 use Rattle.loss_controller.specs.declared.LossController.{LossController}
 use Rattle.loss_controller.specs.declared.ControllerAnswer.{ControllerAnswer}
+use Rattle.loss_controller.specs.Setters.{rateOf}
 use Rattle.history.specs.Calls.{Call, estimate, acknowledged, alr, capacity, report, read}
 use Rattle.history.specs.History.{Pair, History, reported, added}
 use Rattle.history.specs.Refusals.{first, stateRefusal, reportRefusal, refusalOf, Refusals2}
-use Rattle.history.specs.Run.{rateOf, capacityOf, startOf, step}
+use Rattle.history.specs.Run.{capacityOf, startOf, step}
 use Rattle.history.proofs.Kept.{Part, lost-part}
 use Rattle.history.proofs.Sums.{summed, refusal-of-packets}
 use Rattle.history.proofs.Tied.{Tied, added-by, added-tied}
@@ -118,14 +120,9 @@ unfolding Report.observed
 observed-answers c new h completed t k =
     let updated = Report.updatedEstimator new in
     tested (λ (a : ControllerAnswer). Answers a 0) (completed && Report.hasValidEstimate new)
-    (λ e. let u = updated-taken new h t k (both completed (Report.hasValidEstimate new) e) in
+    (λ e. let u = updated-taken new h t k (subst T (sym (both completed (Report.hasValidEstimate new) e .1)) tt) in
     checked-by (λ (a : ControllerAnswer). Answers a 0) (updated .refusal) (λ z. record { told = refl; keeps = estimate-keeps new k (updated .estimator) (u .rates) (u .steady) }) (λ r. absurd (r (u .refusal))))
     (λ e. record { told = refl; keeps = k })
-  where
-    both : (a b : Bool) → (a && b) ≡ true → T b
-    both true true e = tt
-    both true false e = absurd (true≢false (sym e))
-    both false b e = absurd (true≢false (sym e))
 
 module _ (c : LossController) (h : History) (i : Invariant c h) (k : Keeps c) where
   reported-answers : (s : PacketResultsSummary) (delay : Bitrate) (p : Pair) → p .bytes ≡ h .running .bytes + s .«total_size» → p .lost ≡ h .running .lost + s .«lost_size» → Part p

@@ -13,13 +13,13 @@ use Rattle.packets.specs.Summary.{columnsRefusal, summaryOf}
 use Rattle.packets.specs.declared.PacketResultsSummary.{PacketResultsSummary}
 use Rattle.observation.specs.Window as Window
 use Rattle.loss_controller.specs.Controller.{initial, checked, withObservations, withEstimator, withInputs}
-use Rattle.loss_controller.specs.Setters.{rateRefusal, capacityRefusal, startRefusal, setBandwidthEstimate, setAcknowledgedBitrate, setLinkCapacityEstimate, isSome, isInAlr, withAlrStartTime, resetObservations, setAlrStartTime}
+use Rattle.loss_controller.specs.Setters.{rateOf, rateRefusal, capacityRefusal, startRefusal, setBandwidthEstimate, setAcknowledgedBitrate, setLinkCapacityEstimate, isSome, isInAlr, withAlrStartTime, resetObservations, setAlrStartTime}
 use Rattle.loss_controller.specs.Report as Report
 use Rattle.loss_controller.specs.declared.LossController.{LossController}
 use Rattle.loss_controller.specs.declared.ControllerAnswer.{ControllerAnswer}
 use Rattle.history.specs.Calls.{Call, estimate, acknowledged, alr, capacity, report, read}
 use Rattle.history.specs.History.{Pair, History, nothing, fresh, isOn, switched, added, heldOr, completed, running, reported, heard, fed}
-use Rattle.history.specs.Run.{rateOf, capacityOf, startOf, step, next, toldOf}
+use Rattle.history.specs.Run.{capacityOf, startOf, step, next, toldOf}
 use Rattle.history.proofs.Kept.{Part, lost-part}
 use Rattle.history.proofs.Sums.{summed}
 use Rattle.history.proofs.Tied.{Tied, reset-tied, fresh-tied, added-tied}

@@ -8,12 +8,12 @@ use lib.Dec.{eqb, leb, ltb}
 use lib.ListN.{length}
 use Rattle.packets.specs.Summary.{columnsRefusal, packets, packetRefusal}
 use Rattle.packets.specs.declared.PacketResult.{PacketResult}
-use Rattle.loss_controller.specs.Setters.{rateRefusal, capacityRefusal, startRefusal}
+use Rattle.loss_controller.specs.Setters.{rateOf, rateRefusal, capacityRefusal, startRefusal}
 use Rattle.loss_controller.specs.Result.{averageReportedLossRatio}
 use Rattle.loss_controller.specs.declared.LossController.{LossController}
 use Rattle.history.specs.Calls.{Call, estimate, acknowledged, alr, capacity, report, read}
 use Rattle.history.specs.History.{History, bytesOf, latest, heldOr, after}
-use Rattle.history.specs.Run.{rateOf, capacityOf, startOf, step, left, told}
+use Rattle.history.specs.Run.{capacityOf, startOf, step, left, told}
 
 -- the first of two numbers that is not 0
 abbrev pub first : ℕ → ℕ → ℕ

@@ -4,13 +4,10 @@ use mathlib.Core.Bool.{not}
 use mathlib.Core.List.{List, [], _∷_, foldl}
 use mathlib.Core.Option.{Option, none, some}
 use lib.Dec.{eqb}
-use Rattle.float.specs.Rounded.{bits}
-use Rattle.bandwidth.specs.Rate.{rate}
-use Rattle.bandwidth.specs.declared.Bitrate.{Bitrate}
 use Rattle.bandwidth.specs.declared.OptionBitrate.{OptionBitrate}
 use Rattle.bandwidth.specs.declared.OptionBitrate.the-variants.{Some, None}
 use Rattle.loss_controller.specs.Controller.{initial, answered}
-use Rattle.loss_controller.specs.Setters.{setBandwidthEstimate, setAcknowledgedBitrate, setAlrStartTime, setLinkCapacityEstimate}
+use Rattle.loss_controller.specs.Setters.{rateOf, setBandwidthEstimate, setAcknowledgedBitrate, setAlrStartTime, setLinkCapacityEstimate}
 use Rattle.loss_controller.specs.Report.{updateBandwidthEstimate}
 use Rattle.loss_controller.specs.declared.OptionInstant.{OptionInstant}
 use Rattle.loss_controller.specs.declared.OptionInstant.the-variants.{Some as On, None as Off}
@@ -19,9 +16,6 @@ use Rattle.loss_controller.specs.declared.ControllerAnswer.{ControllerAnswer}
 use Rattle.history.specs.Calls.{Call, estimate, acknowledged, alr, capacity, report, read, Told}
 
 -- ---- a call's values as the controller takes them
-
-abbrev pub rateOf : ℕ → Bitrate
-rateOf n = rate (bits n)
 
 abbrev pub capacityOf : Option ℕ → OptionBitrate
 capacityOf none = None

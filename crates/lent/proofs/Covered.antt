@@ -6,9 +6,10 @@ use Rattle.packets.specs.declared.PacketResult.{PacketResult}
 use Rattle.loss_controller.specs.Controller.{initial}
 use Rattle.loss_controller.specs.Report.{updateBandwidthEstimate}
 use Rattle.loss_controller.specs.declared.LossController.{LossController}
+use Rattle.loss_controller.specs.Setters.{rateOf}
 use Rattle.history.specs.Calls.{Call, report}
 use Rattle.history.specs.History.{after}
-use Rattle.history.specs.Run.{rateOf, step, next, left, told}
+use Rattle.history.specs.Run.{step, next, left, told}
 use Rattle.history.specs.Demand.{Demand}
 use Rattle.history.proofs.Demand.{demand-3}
 use Rattle.history.proofs.Refusals.{refusals}

@@ -6,6 +6,7 @@ use lib.Ieee.{Float, lt}
 use lib.Ieee.Scale.{finite}
 use Rattle.float.specs.Rounded.{bits}
 use Rattle.float.specs.Rust.{signBit}
+use Rattle.bandwidth.specs.Rate.{rate}
 use Rattle.bandwidth.specs.declared.Bitrate.{Bitrate}
 use Rattle.bandwidth.specs.declared.OptionBitrate.{OptionBitrate}
 use Rattle.bandwidth.specs.declared.OptionBitrate.the-variants.{Some, None}
@@ -15,6 +16,10 @@ use Rattle.loss_controller.specs.declared.OptionInstant.{OptionInstant}
 use Rattle.loss_controller.specs.declared.OptionInstant.the-variants.{Some as On, None as Off}
 use Rattle.loss_controller.specs.declared.LossController.{LossController}
 use Rattle.loss_controller.specs.declared.ControllerAnswer.{ControllerAnswer}
+
+-- a rate by its 64 bits, as histories and call lists have it
+abbrev pub rateOf : ℕ → Bitrate
+rateOf n = rate (bits n)
 
 -- ---- the codes
 

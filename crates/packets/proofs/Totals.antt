@@ -1,7 +1,7 @@
 -- The list of packets that three columns of one length make, and how far one packet takes the totals. Assumes nothing.
 use Prim.Native.Nat.{ℕ, zero, suc, _+_, _*_, _^_, _≤_, _<_}
-use mathlib.Core.Path.{_≡_, refl, sym, ap}
-use mathlib.Core.Bool.{Bool, true, false, cond, true≢false, _&&_}
+use mathlib.Core.Path.{_≡_, refl, ap}
+use mathlib.Core.Bool.{Bool, true, false, cond, _&&_}
 use mathlib.Core.List.{List, [], _∷_, foldl}
 use native.Mathlib.Nat.{mul-le-mul-left, mul-one}
 use native.Mathlib.Omega.{arith}
@@ -10,7 +10,8 @@ use lib.Dec.{eqb, leb, ltb, lit≤}
 use lib.ListN.{length, getD, drop}
 use Rattle.float.proofs.Fold.{fold-again, fold-end}
 use Rattle.float.proofs.Refusal.{either, checked}
-use Rattle.packets.specs.Summary.{columnsRefusal, packets, packetRefusal, empty, refused, later, plus, addPacket, takesAnother, added, summaryOf, largestPacket, Within}
+use Rattle.float.proofs.Both.{both}
+use Rattle.packets.specs.Summary.{columnsRefusal, packets, packetRefusal, empty, refused, plus, addPacket, takesAnother, added, summaryOf, largestPacket, Within}
 use Rattle.packets.specs.declared.PacketResult.{PacketResult}
 use Rattle.packets.specs.declared.PacketResultsSummary.{PacketResultsSummary}
 use Rattle.packets.specs.declared.SummaryAnswer.{SummaryAnswer}
@@ -145,16 +146,13 @@ within-more n a p s w = go (eqb (a .refusal) 0) (eqb (packetRefusal p) 0) refl
 
 pub takes-within : (s : PacketResultsSummary) → takesAnother s ≡ true → Within 4095 s
 unfolding takesAnother
-takes-within s =
-    go (leb (s .«num_packets») 4095) (leb (s .«num_lost_packets») (s .«num_packets»)) (leb (s .«total_size») (largestPacket * 4095)) (leb (s .«lost_size») (s .«total_size»)) refl refl refl refl
-  where
-    go : (a b c d : Bool) → leb (s .«num_packets») 4095 ≡ a → leb (s .«num_lost_packets») (s .«num_packets») ≡ b → leb (s .«total_size») (largestPacket * 4095) ≡ c
-        → leb (s .«lost_size») (s .«total_size») ≡ d → (a && (b && (c && d))) ≡ true → Within 4095 s
-    go true true true true p q r t h = record { packets-within = leb-true _ _ p; lost-packets-within = leb-true _ _ q; size-within = leb-true _ _ r; lost-size-within = leb-true _ _ t }
-    go true true true false p q r t h = absurd (true≢false (sym h))
-    go true true false d p q r t h = absurd (true≢false (sym h))
-    go true false c d p q r t h = absurd (true≢false (sym h))
-    go false b c d p q r t h = absurd (true≢false (sym h))
+takes-within s e =
+    let lost-size = leb (s .«lost_size») (s .«total_size») in
+    let sizes = leb (s .«total_size») (largestPacket * 4095) && lost-size in
+    let p = both (leb (s .«num_packets») 4095) (leb (s .«num_lost_packets») (s .«num_packets») && sizes) e in
+    let q = both (leb (s .«num_lost_packets») (s .«num_packets»)) sizes (p .1) in
+    let r = both (leb (s .«total_size») (largestPacket * 4095)) lost-size (q .1) in
+    record { packets-within = leb-true _ _ (p .0); lost-packets-within = leb-true _ _ (q .0); size-within = leb-true _ _ (r .0); lost-size-within = leb-true _ _ (r .1) }
 
 -- it is `addPacket` on the totals of fewer than 4,096 packets
 pub added-is : (a : SummaryAnswer) (p : PacketResult) → Within 4095 (a .summary) → added a p ≡ addPacket a p
