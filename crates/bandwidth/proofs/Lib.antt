@@ -1,3 +1,4 @@
 pub mod Field
 pub mod Units
 pub mod Exact
+pub mod NotNegativeRate

@@ -2,17 +2,17 @@
 -- Assumes nothing.
 use mathlib.Core.Path.{_≡_, refl, sym, _∙_}
 use mathlib.Core.Bool.{Bool, true, false, _&&_, _||_, cond, true≢false, false≢true}
-use Prim.Native.Nat.{ℕ, zero, suc, _+_, _*_, _%_, _/_, _^_, _≤_, _<_, min}
+use Prim.Native.Nat.{ℕ, _*_, _%_, _/_, _^_, _≤_, _<_, min}
 use native.Mathlib.Nat.{zero-mul, min-eq-left, min-eq-right, min-le-left}
 use native.Mathlib.Omega.{arith}
 use borrow.Author.Tests.{ltb-true, ltb-false, eqb-true, eqb-false, lt-ltb, le-ltb}
-use lib.Dec.{ltb, eqb, lit<, lit≤}
+use lib.Dec.{T, ltb, eqb, lit<, lit≤}
 use lib.IntN.{ℤ, pos}
-use lib.Ieee.{Float, nan, inf, fin, binary64, up, down, odd, units, round, sum, add, mul, div, lt, eq, le, ofInt, ofBits}
+use lib.Ieee.{Float, inf, fin, binary64, up, down, mul, div, lt, eq, le, ofInt, ofBits}
 use lib.Ieee.Fits.{down-pos}
 use lib.Ieee.Nearest.{closest, closest-mono}
-use lib.Ieee.Order.{kept, drop}
-use Rattle.float.specs.Rounded.{_⊕_, _⊗_, _⊘_, bits}
+use Rattle.float.specs.Rounded.{_⊗_, _⊘_, bits}
+use Rattle.float.proofs.NotNegative.{upward, round-upward, add-upward}
 use Rattle.float.proofs.Refusal.{accepted}
 use Rattle.duration.specs.Seconds.{nanosPerSecond, billion, seconds, refused, fitted, nearestNanos, fromSeconds}
 use Rattle.duration.specs.declared.Duration.{Duration}
@@ -20,54 +20,24 @@ use Rattle.duration.specs.declared.DurationAnswer.{DurationAnswer}
 use Rattle.config.specs.Config.{«hold_duration_factor», «max_hold_duration»}
 use Rattle.estimator.specs.Hold.{sixty, twice, doubled}
 
--- ---- the doubled seconds have no minus sign and are no NaN
-abbrev Unsigned : Float → Type 0
-Unsigned nan = ⊥
-Unsigned (inf true) = ⊥
-Unsigned (inf false) = Unit {0}
-Unsigned (fin true m e) = ⊥
-Unsigned (fin false m e) = Unit {0}
+-- ---- the doubled seconds have their sign clear
 
-odd-unsigned : (d q k l : ℕ) → Unsigned (odd d false q k l)
-unfolding odd
-odd-unsigned d zero k l = tt
-odd-unsigned d (suc q) k l = tt
-
-either : (b : Bool) (x y : Float) → Unsigned x → Unsigned y → Unsigned (cond b x y)
-either true x y p q = p
-either false x y p q = q
-
-units-unsigned : (q k : ℕ) → Unsigned (units binary64 false q k)
-unfolding units
-units-unsigned q k = either (ltb (q * 2 ^ k) (2 ^ 2098)) (odd 54 false q k 1074) (inf false) (odd-unsigned 54 q k 1074) tt
-
-round-unsigned : (a c : ℕ) → Unsigned (round binary64 false a c)
-unfolding round
-round-unsigned a c = units-unsigned (kept 53 (a * 2 ^ 1074) c) (drop 53 (a * 2 ^ 1074) c)
-
-add-unsigned : (x y : Float) → Unsigned x → Unsigned y → Unsigned (x ⊕ y)
-unfolding add sum
-add-unsigned (inf false) (inf false) p q = tt
-add-unsigned (inf false) (fin false n d) p q = tt
-add-unsigned (fin false m e) (inf false) p q = tt
-add-unsigned (fin false m e) (fin false n d) p q = round-unsigned (m * up e * down d + n * up d * down e) (down e * down d)
-
-over-billion : (x : Float) → Unsigned x → Unsigned (x ⊘ billion)
+over-billion : (x : Float) → T (upward x) → T (upward (x ⊘ billion))
 unfolding div ofBits
 over-billion (inf false) p = tt
-over-billion (fin false m e) p = round-unsigned (m * up e * 1) (nanosPerSecond * down e)
+over-billion (fin false m e) p = round-upward (m * up e * 1) (nanosPerSecond * down e)
 
-times-two : (x : Float) → Unsigned x → Unsigned (x ⊗ «hold_duration_factor»)
+times-two : (x : Float) → T (upward x) → T (upward (x ⊗ «hold_duration_factor»))
 unfolding mul ofBits
 times-two (inf false) p = tt
-times-two (fin false m e) p = round-unsigned (m * up e * 2) (down e * 1)
+times-two (fin false m e) p = round-upward (m * up e * 2) (down e * 1)
 
-twice-unsigned : (d : Duration) → Unsigned (twice d)
+twice-upward : (d : Duration) → T (upward (twice d))
 unfolding seconds twice ofInt
-twice-unsigned d =
+twice-upward d =
     times-two (seconds d)
-    (add-unsigned _ _ (round-unsigned (d .nanos / nanosPerSecond) 1)
-    (over-billion (ofInt binary64 (pos (d .nanos % nanosPerSecond))) (round-unsigned (d .nanos % nanosPerSecond) 1)))
+    (add-upward _ _ (round-upward (d .nanos / nanosPerSecond) 1)
+    (over-billion (ofInt binary64 (pos (d .nanos % nanosPerSecond))) (round-upward (d .nanos % nanosPerSecond) 1)))
 
 -- ---- against 60.0
 
@@ -120,12 +90,12 @@ fitted-nanos : (n : ℕ) → fitted n .refusal ≡ 0 → fitted n .duration .nan
 unfolding fitted
 fitted-nanos n h = rw (accepted (λ (a : DurationAnswer). a .refusal) _ refused (ltb n (2 ^ 64)) (lit< tt) h)
 
-taken : (x : Float) → Unsigned x → le sixty x ≡ false → fromSeconds x .refusal ≡ 0
+taken : (x : Float) → T (upward x) → le sixty x ≡ false → fromSeconds x .refusal ≡ 0
 unfolding fitted
 taken (inf false) p h = absurd (true≢false (sym infinity-long ∙ h))
 taken (fin false m e) p h = rw (from-finite m e, lt-ltb (nanos m e) (2 ^ 64) (omega (arith, below-sixty m e h)))
 
-smaller : (x : Float) (b : Bool) → Unsigned x → le sixty x ≡ b → fromSeconds x .refusal ≡ 0
+smaller : (x : Float) (b : Bool) → T (upward x) → le sixty x ≡ b → fromSeconds x .refusal ≡ 0
     → cond b «max_hold_duration» (fromSeconds x .duration) .nanos ≡ min 60000000000 (fromSeconds x .duration .nanos)
 smaller (inf false) b p h k = absurd (omega (arith, infinity-refused))
 smaller (fin false m e) true p h k =
@@ -137,17 +107,17 @@ smaller (fin false m e) false p h k =
 
 -- below 60.0 s the doubled seconds are not refused
 pub doubled-taken : (d : Duration) → le sixty (twice d) ≡ false → fromSeconds (twice d) .refusal ≡ 0
-doubled-taken d = taken (twice d) (twice-unsigned d)
+doubled-taken d = taken (twice d) (twice-upward d)
 
 -- wherever they are not, the span is the smaller of 60 s and theirs (MAX_HOLD_DURATION.min)
 pub doubled-is-minimum : (d : Duration) → fromSeconds (twice d) .refusal ≡ 0 → doubled d .nanos ≡ min 60000000000 (fromSeconds (twice d) .duration .nanos)
 unfolding doubled
-doubled-is-minimum d = smaller (twice d) (le sixty (twice d)) (twice-unsigned d) refl
+doubled-is-minimum d = smaller (twice d) (le sixty (twice d)) (twice-upward d) refl
 
-short : (x : Float) (b : Bool) → Unsigned x → le sixty x ≡ b → cond b «max_hold_duration» (fromSeconds x .duration) .nanos ≤ 60000000000
+short : (x : Float) (b : Bool) → T (upward x) → le sixty x ≡ b → cond b «max_hold_duration» (fromSeconds x .duration) .nanos ≤ 60000000000
 short x true p h = lit≤ tt
 short x false p h = rw (smaller x false p h (taken x p h)) (min-le-left _ _)
 
 pub doubled-short : (d : Duration) → doubled d .nanos ≤ 60000000000
 unfolding doubled
-doubled-short d = short (twice d) (le sixty (twice d)) (twice-unsigned d) refl
+doubled-short d = short (twice d) (le sixty (twice d)) (twice-upward d) refl

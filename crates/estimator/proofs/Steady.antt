@@ -1,23 +1,29 @@
--- From a fresh estimator on, no report is refused while the send times are at most 4·10^18 ns: the window's start is then such a time and the hold's
--- span at most 60 s, and each report keeps that. Assumes nothing.
+-- From a fresh estimator on, no report is refused while the send times are at most 4·10^18 ns and the chosen rates are not negative: the window's start
+-- is then such a time, the hold's span at most 60 s, the estimator's rates are not negative, and each report keeps that. Assumes nothing.
 use mathlib.Core.Path.{_≡_, refl}
-use mathlib.Core.Bool.{Bool, true, false, cond, _&&_}
+use mathlib.Core.Bool.{_&&_}
 use Prim.Native.Nat.{_+_, _^_, _≤_}
 use native.Mathlib.Omega.{arith}
 use borrow.Author.Tests.{lt-ltb}
-use lib.Dec.{eqb, lit≤}
-use lib.Ieee.{lt}
+use lib.Dec.{T, eqb, lit≤}
+use lib.Ieee.{Float, binary64, lt, eq, ofBits}
+use lib.Ieee.Bits.{ofBits-fits}
+use lib.Ieee.Fits.{mul-fits}
 use lib.Ieee.Scale.{finite}
+use Rattle.float.proofs.Extremes.{minimum-by}
+use Rattle.float.proofs.NotNegative.{Holds, NotNegative, inf-not-negative, maximum-not-negative, add-not-negative}
 use Rattle.float.proofs.Refusal.{either}
 use Rattle.duration.specs.declared.Duration.{Duration}
+use Rattle.bandwidth.specs.Rate as Rate
 use Rattle.bandwidth.specs.declared.Bitrate.{Bitrate}
 use Rattle.bandwidth.specs.declared.RateAnswer.{RateAnswer}
+use Rattle.bandwidth.proofs.NotNegativeRate.{NotNegativeRate, nearest-not-negative}
 use Rattle.time.specs.Nanos.{fitted}
 use Rattle.time.specs.Time.{plus}
 use Rattle.time.specs.declared.TimeDelta.the-variants.{Positive}
 use Rattle.time.specs.declared.Timestamp.{Timestamp}
 use Rattle.time.specs.declared.Timestamp.the-variants.{DistantPast, Exact, DistantFuture}
-use Rattle.config.specs.Config.{«delayed_increase_window»}
+use Rattle.config.specs.Config.{«delayed_increase_window», «congestion_controller_min_bitrate»}
 use Rattle.likelihood.specs.declared.ChannelParameters.{ChannelParameters}
 use Rattle.estimator.specs.State.{isLimitedDueToLoss, isDecreasing}
 use Rattle.estimator.specs.Hold as Hold
@@ -45,21 +51,31 @@ pub record Steady (e : Estimator) : Type 0 where
   pub start : Timely (e .recovery .«recovering_after_loss_timestamp»)
   pub span : e .«last_hold_info» .duration .nanos ≤ 60000000000
 
+-- the rates of an estimator; the current one is set from outside, and minus infinity at first
+pub record Rates (e : Estimator) : Type 0 where
+  pub current : T (finite (Increase.current e .bps)) → NotNegativeRate (Increase.current e)
+  pub hold : NotNegativeRate (e .«last_hold_info» .rate)
+  pub limit : NotNegativeRate (e .recovery .«bandwidth_limit_in_current_window»)
+
 -- ---- answers that are not refused
 record TakenRate (a : RateAnswer) : Type 0 where
-  pub refusal : a .refusal ≡ 0
+  refusal : a .refusal ≡ 0
+  rate : NotNegativeRate (a .rate)
 
 record TakenHold (a : HoldAnswer) : Type 0 where
-  pub refusal : a .refusal ≡ 0
-  pub span : a .hold .duration .nanos ≤ 60000000000
+  refusal : a .refusal ≡ 0
+  span : a .hold .duration .nanos ≤ 60000000000
+  rate : NotNegativeRate (a .hold .rate)
 
 record TakenRecovery (a : RecoveryAnswer) : Type 0 where
-  pub refusal : a .refusal ≡ 0
-  pub start : Timely (a .recovery .«recovering_after_loss_timestamp»)
+  refusal : a .refusal ≡ 0
+  start : Timely (a .recovery .«recovering_after_loss_timestamp»)
+  limit : NotNegativeRate (a .recovery .«bandwidth_limit_in_current_window»)
 
 pub record Taken (a : EstimatorAnswer) : Type 0 where
   pub refusal : a .refusal ≡ 0
   pub steady : Steady (a .estimator)
+  pub rates : Rates (a .estimator)
 
 plus-taken : (t : Timestamp) (d : Duration) → Timely t → d .nanos ≤ 60000000000 → plus t (Positive d) .refusal ≡ 0
 unfolding plus fitted
@@ -67,87 +83,131 @@ plus-taken DistantPast d p q = refl
 plus-taken (Exact i) d p q = rw (lt-ltb (i + d .nanos) (2 ^ 64) (omega arith))
 plus-taken DistantFuture d p q = refl
 
--- ---- each step
-module _ (w : Recovery) (best : Bitrate) (t : Timestamp) (s : Timely (w .«recovering_after_loss_timestamp»)) where
-  end-taken : Window.windowEnd w .refusal ≡ 0
-  unfolding Window.windowEnd
-  end-taken = plus-taken (w .«recovering_after_loss_timestamp») «delayed_increase_window» s (lit≤ tt)
+least-not-negative : NotNegativeRate «congestion_controller_min_bitrate»
+least-not-negative = record { holds = ofBits-fits binary64 _; above = unfold ofBits in tt }
 
-  bounded-taken : TakenRate (Window.bounded w best t)
-  unfolding Window.bounded
-  bounded-taken = rw end-taken (record { refusal = refl })
+-- ---- each step, at a rate that is not negative
+module _ (best : Bitrate) (n : NotNegativeRate best) (t : Timestamp) where
+  module _ (w : Recovery) (s : Timely (w .«recovering_after_loss_timestamp»)) (l : NotNegativeRate (w .«bandwidth_limit_in_current_window»)) where
+    end-taken : Window.windowEnd w .refusal ≡ 0
+    unfolding Window.windowEnd
+    end-taken = plus-taken (w .«recovering_after_loss_timestamp») «delayed_increase_window» s (lit≤ tt)
 
-  opened-taken : Timely t → TakenRecovery (Window.answered (Window.opened w best t))
-  unfolding Window.opened
-  opened-taken h = record { refusal = refl; start = h }
+    bounded-taken : TakenRate (Window.bounded w best t)
+    unfolding Window.bounded
+    bounded-taken =
+        let above = Window.isAboveLimit w best (Window.windowEnd w .time) t in
+        rw end-taken (record { refusal = refl; rate = either NotNegativeRate above _ best l n })
 
-  renewed-taken : (state : LossControllerState) → Timely t → TakenRecovery (Window.renewed w state best t)
-  unfolding Window.renewed
-  renewed-taken state h =
-      let kept : TakenRecovery (Window.answered w) = record { refusal = refl; start = s } in
-      let over = Window.isOver w (Window.windowEnd w .time) t in
-      rw end-taken
-      (either TakenRecovery (isLimitedDueToLoss state) _ _
-      (either (λ (v : Recovery). TakenRecovery (Window.answered v)) over (Window.opened w best t) w (opened-taken h) kept)
-      kept)
+    opened-taken : Timely t → TakenRecovery (Window.answered (Window.opened w best t))
+    unfolding Window.opened Rate.larger Rate.times
+    opened-taken h = record { refusal = refl; start = h; limit = maximum-not-negative _ least-not-negative (mul-fits binary64 (best .bps) _) }
 
-entered-taken : (h : HoldInfo) (best : Bitrate) (t : Timestamp) → h .duration .nanos ≤ 60000000000 → Timely t → TakenHold (Hold.entered h best t)
-unfolding Hold.entered
-entered-taken h best t l p = rw (plus-taken t (h .duration) p l) (record { refusal = refl; span = doubled-short (h .duration) })
+    renewed-taken : (state : LossControllerState) → Timely t → TakenRecovery (Window.renewed w state best t)
+    unfolding Window.renewed
+    renewed-taken state h =
+        let kept : TakenRecovery (Window.answered w) = record { refusal = refl; start = s; limit = l } in
+        let over = Window.isOver w (Window.windowEnd w .time) t in
+        rw end-taken
+        (either TakenRecovery (isLimitedDueToLoss state) _ _
+        (either (λ (v : Recovery). TakenRecovery (Window.answered v)) over (Window.opened w best t) w (opened-taken h) kept)
+        kept)
 
-module _ (e : Estimator) (s : Steady e) where
-  limited-taken : (best : Bitrate) (r : Report) → TakenRate (Increase.increaseLimitedDueToLoss e best r)
+  entered-taken : (h : HoldInfo) → h .duration .nanos ≤ 60000000000 → Timely t → TakenHold (Hold.entered h best t)
+  unfolding Hold.entered
+  entered-taken h l p = rw (plus-taken t (h .duration) p l) (record { refusal = refl; span = doubled-short (h .duration); rate = n })
+
+module _ (e : Estimator) (s : Steady e) (k : Rates e) (c : NotNegativeRate (Increase.current e)) where
+  ramped-rate : (best acknowledged : Bitrate) → NotNegativeRate best → NotNegativeRate (Increase.rampedUp e best acknowledged)
+  unfolding Increase.rampedUp Increase.withinRampup Rate.larger Rate.smaller Rate.times Rate.plus
+  ramped-rate best acknowledged n =
+      let ramped = Increase.withinRampup e best acknowledged in
+      either NotNegativeRate (isDecreasing (e .state) && eq (ramped .bps) (Increase.current e .bps)) _ ramped
+      (add-not-negative (Increase.current e .bps) _ c (nearest-not-negative 1))
+      (maximum-not-negative _ c (minimum-by Holds (best .bps) _ (λ h. n .holds) (mul-fits binary64 (acknowledged .bps) _)))
+
+  limited-taken : (best : Bitrate) (r : Report) → NotNegativeRate best → TakenRate (Increase.increaseLimitedDueToLoss e best r)
   unfolding Increase.increaseLimitedDueToLoss
-  limited-taken best r =
-      let a = Window.bounded (e .recovery) best (r .«last_send_time») in
+  limited-taken best r n =
+      let within = Window.bounded (e .recovery) best (r .«last_send_time») in
+      let t = bounded-taken best n (r .«last_send_time») (e .recovery) (s .start) (k .limit) in
       either TakenRate
-      (eqb (a .refusal) 0 && (Increase.isEstimateIncreasingWhenLossLimited e (a .rate) && finite (r .«acknowledged_bitrate» .bps)))
-      _ a (record { refusal = refl }) (bounded-taken (e .recovery) best (r .«last_send_time») (s .start))
+      (eqb (within .refusal) 0 && (Increase.isEstimateIncreasingWhenLossLimited e (within .rate) && finite (r .«acknowledged_bitrate» .bps)))
+      _ within (record { refusal = refl; rate = ramped-rate (within .rate) (r .«acknowledged_bitrate») (t .rate) }) t
 
-  increase-taken : (best : ChannelParameters) (r : Report) → TakenRate (Increase.increaseLimited e best r)
-  unfolding Increase.increaseLimited
-  increase-taken best r = either TakenRate (isLimitedDueToLoss (e .state)) _ _ (limited-taken _ r) (record { refusal = refl })
+  module _ (best : ChannelParameters) (n : NotNegativeRate (best .«loss_limited_bandwidth»)) (r : Report) where
+    abbrev rate : Bitrate
+    rate = best .«loss_limited_bandwidth»
 
-  hold-taken : (state : LossControllerState) (best : Bitrate) (t : Timestamp) → Timely t → TakenHold (Update.newHoldInfo e state best t)
-  unfolding Update.newHoldInfo
-  hold-taken Increasing best t h = record { refusal = refl; span = s .span }
-  hold-taken Decreasing best t h =
-      either TakenHold (isDecreasing (e .state)) _ _ (record { refusal = refl; span = s .span })
-      (entered-taken (e .«last_hold_info») best t (s .span) h)
-  hold-taken DelayBased best t h = record { refusal = refl; span = lit≤ tt }
+    unraised-rate : (ratio : Float) → NotNegativeRate (Increase.notIncreasedAboveInherentLoss e best ratio)
+    unfolding Increase.notIncreasedAboveInherentLoss
+    unraised-rate ratio = either NotNegativeRate (lt (best .«inherent_loss») ratio && lt (Increase.current e .bps) (rate .bps)) _ _ c n
 
-  held-taken : (best : ChannelParameters) → Taken (Update.answered (Update.held e best))
-  unfolding Update.held
-  held-taken best = record { refusal = refl; steady = record { start = s .start; span = s .span } }
+    increase-taken : TakenRate (Increase.increaseLimited e best r)
+    unfolding Increase.increaseLimited
+    increase-taken =
+        let kept = unraised-rate (r .«average_reported_loss_ratio») in
+        either TakenRate (isLimitedDueToLoss (e .state)) _ _ (limited-taken _ r kept) (record { refusal = refl; rate = kept })
 
-  new-taken : (best : ChannelParameters) (r : Report) → Timely (r .«last_send_time») → Taken (Update.withNewState e best r)
-  unfolding Update.withNewState Update.firstRefusal
-  new-taken best r h =
-      let rate = best .«loss_limited_bandwidth» in
-      let state = Update.newState e rate (r .«delay_based_estimate») in
-      let hold = hold-taken state rate (r .«last_send_time») h in
-      let window = renewed-taken (e .recovery) rate (r .«last_send_time») (s .start) state h in
-      record { refusal = rw (hold .refusal, window .refusal); steady = record { start = window .start; span = hold .span } }
+    held-taken : Taken (Update.answered (Update.held e best))
+    unfolding Update.held Rate.smaller
+    held-taken = record {
+      refusal = refl;
+      steady = record { start = s .start; span = s .span };
+      rates = record { current = λ f. minimum-by NotNegative (rate .bps) _ (λ h. n) (k .hold); hold = k .hold; limit = k .limit };
+    }
 
-  decided-taken : (best : ChannelParameters) (r : Report) → Timely (r .«last_send_time») → Taken (Update.decided e best r)
-  unfolding Update.decided
-  decided-taken best r h = either Taken (Update.isInHold e (best .«loss_limited_bandwidth») r) _ _ (held-taken best) (new-taken best r h)
+    module _ (h : Timely (r .«last_send_time»)) where
+      hold-taken : (state : LossControllerState) → TakenHold (Update.newHoldInfo e state rate (r .«last_send_time»))
+      unfolding Update.newHoldInfo
+      hold-taken Increasing = record { refusal = refl; span = s .span; rate = k .hold }
+      hold-taken Decreasing =
+          either TakenHold (isDecreasing (e .state)) _ _ (record { refusal = refl; span = s .span; rate = k .hold })
+          (entered-taken rate n (r .«last_send_time») (e .«last_hold_info») (s .span) h)
+      hold-taken DelayBased = record { refusal = refl; span = lit≤ tt; rate = inf-not-negative }
 
-  updated-taken : (best : ChannelParameters) (r : Report) → Timely (r .«last_send_time») → Taken (Update.updated e best r)
+      new-taken : Taken (Update.withNewState e best r)
+      unfolding Update.withNewState Update.firstRefusal
+      new-taken =
+          let state = Update.newState e rate (r .«delay_based_estimate») in
+          let hold = hold-taken state in
+          let window = renewed-taken rate n (r .«last_send_time») (e .recovery) (s .start) (k .limit) state h in
+          record {
+            refusal = rw (hold .refusal, window .refusal);
+            steady = record { start = window .start; span = hold .span };
+            rates = record { current = λ f. n; hold = hold .rate; limit = window .limit };
+          }
+
+      decided-taken : Taken (Update.decided e best r)
+      unfolding Update.decided
+      decided-taken = either Taken (Update.isInHold e rate r) _ _ held-taken new-taken
+
+  updated-taken : (best : ChannelParameters) (r : Report) → NotNegativeRate (best .«loss_limited_bandwidth») → Timely (r .«last_send_time») → Taken (Update.updated e best r)
   unfolding Update.updated
-  updated-taken best r h = rw (increase-taken best r .refusal) (decided-taken _ r h)
-
-noted-steady : (e : Estimator) (best : ChannelParameters) (t : Timestamp) → Steady e → Steady (Update.withReductionNoted e best t)
-unfolding Update.withReductionNoted
-noted-steady e best t s =
-    either Steady (lt (best .«loss_limited_bandwidth» .bps) (Increase.current e .bps)) _ e (record { start = s .start; span = s .span }) s
+  updated-taken best r n h =
+      let limited = increase-taken best n r in
+      rw (limited .refusal) (decided-taken _ (limited .rate) r h)
 
 -- ---- the whole
+
+-- a fresh estimator, whose current rate is minus infinity
 pub fresh-steady : Steady Update.initial
 fresh-steady = record { start = tt; span = lit≤ tt }
 
-pub not-refused : (e : Estimator) (best : ChannelParameters) (r : Report) → Steady e → Timely (r .«last_send_time») → Taken (Update.applied e best r)
-unfolding Update.applied
-not-refused e best r s h =
-    let t = updated-taken (Update.withReductionNoted e best (r .«last_send_time»)) (noted-steady e best (r .«last_send_time») s) best r h in
-    rw (t .refusal) (record { refusal = refl; steady = t .steady })
+pub fresh-rates : Rates Update.initial
+fresh-rates = record { current = λ f. absurd f; hold = inf-not-negative; limit = nearest-not-negative 18446744073709551615 }
+
+-- where the current rate is finite and the chosen one not negative, a report is taken
+module _ (e : Estimator) (best : ChannelParameters) (r : Report) (s : Steady e) (k : Rates e) (f : T (finite (Increase.current e .bps)))
+    (n : NotNegativeRate (best .«loss_limited_bandwidth»)) (h : Timely (r .«last_send_time»)) where
+  noted-taken : Taken (Update.updated (Update.withReductionNoted e best (r .«last_send_time»)) best r)
+  unfolding Update.withReductionNoted
+  noted-taken =
+      let c = k .current f in
+      either (λ (e : Estimator). Taken (Update.updated e best r)) (lt (best .«loss_limited_bandwidth» .bps) (Increase.current e .bps)) _ e
+      (updated-taken _ (record { start = s .start; span = s .span }) (record { current = k .current; hold = k .hold; limit = k .limit }) c best r n h)
+      (updated-taken e s k c best r n h)
+
+  pub not-refused : Taken (Update.applied e best r)
+  unfolding Update.applied
+  not-refused = rw (noted-taken .refusal) (record { refusal = refl; steady = noted-taken .steady; rates = noted-taken .rates })

@@ -5,3 +5,7 @@ pub mod Limits
 pub mod Fold
 pub mod Refusal
 pub mod Both
+pub mod Each
+pub mod Extremes
+pub mod NotNan
+pub mod NotNegative

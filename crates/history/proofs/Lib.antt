@@ -7,16 +7,6 @@ pub mod Run
 pub mod Step
 pub mod Under
 pub mod Demand
-pub mod NotNegative
-pub mod NotNan
-pub mod Logarithms
-pub mod Probable
-pub mod Each
-pub mod Judged
-pub mod Offered
-pub mod Chosen
-pub mod Sent
-pub mod Estimated
 pub mod Observed
 pub mod Reached
 pub mod Refusals

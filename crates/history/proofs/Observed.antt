@@ -22,7 +22,8 @@ use Rattle.observation.specs.declared.PartialObservation.{PartialObservation}
 use Rattle.observation.specs.declared.Observations.{Observations}
 use Rattle.observation.specs.declared.AddedAnswer.{AddedAnswer}
 use Rattle.history.specs.History.{History, heldOr, completed}
-use Rattle.history.proofs.Tied.{Tied, span, added-by, updated-sums, pairOf, observed-held, completed-tied, completes-is}
+use Rattle.observation.proofs.Added.{span, added-by}
+use Rattle.history.proofs.Tied.{Tied, updated-sums, pairOf, observed-held, completed-tied, completes-is}
 use Rattle.history.proofs.Weighed.{tied-ceiling-taken}
 
 -- no more packets lost than there are, in the running sums

@@ -27,8 +27,7 @@ use Rattle.observation.specs.Window as Window
 use Rattle.observation.specs.declared.Observations.{Observations}
 use Rattle.config.specs.Config as Config
 use Rattle.candidates.specs.Bound as Bound
-use Rattle.estimator.specs.declared.EstimatorAnswer.{EstimatorAnswer}
-use Rattle.estimator.proofs.Steady.{Timely, Steady, fresh-steady, not-refused}
+use Rattle.estimator.proofs.Steady.{Timely, Steady, Rates, Taken, fresh-steady, fresh-rates, not-refused}
 use Rattle.loss_controller.specs.Controller.{initial, refused}
 use Rattle.loss_controller.specs.Setters as Setters
 use Rattle.loss_controller.specs.Report as Report
@@ -37,13 +36,14 @@ use Rattle.loss_controller.specs.Setters.{rateOf}
 use Rattle.history.specs.Calls.{acknowledged, capacity, report}
 use Rattle.history.specs.History.{History, reported}
 use Rattle.history.specs.Run.{capacityOf}
-use Rattle.history.proofs.NotNegative.{Holds, NotNegative, HoldsRate, minimum-fits, maximum-fits}
+use Rattle.float.proofs.Extremes.{minimum-by, maximum-by}
+use Rattle.float.proofs.NotNegative.{Holds, NotNegative}
+use Rattle.bandwidth.proofs.NotNegativeRate.{HoldsRate, over-holds}
 use Rattle.history.proofs.Tied.{Tied}
 use Rattle.history.proofs.Weighed.{tied-reported, tied-readable}
-use Rattle.history.proofs.Offered.{bound-fits}
-use Rattle.history.proofs.Chosen.{chosen}
-use Rattle.history.proofs.Sent.{AllSent, cleared-sent, rows-sent, over-fits}
-use Rattle.history.proofs.Estimated.{Rates, initial-rates, applied-rates}
+use Rattle.candidates.proofs.Offered.{bound-holds}
+use Rattle.candidates.proofs.Chosen.{chosen}
+use Rattle.observation.proofs.Sent.{AllSent, cleared-sent, rows-sent}
 use Rattle.history.proofs.Observed.{Counted, cleared-counted}
 
 -- ---- the rates that calls hand over
@@ -103,7 +103,7 @@ initial-keeps = record {
   counted = cleared-counted 0;
   sent = cleared-sent 0;
   timely = tt;
-  rates = initial-rates;
+  rates = fresh-rates;
   steady = fresh-steady;
   delay = infinite-taken;
   acknowledged = infinite-taken;
@@ -132,8 +132,8 @@ limit-holds ratio =
     let taken = Rate.times Config.«slope_of_bwe_high_loss_function» ratio in
     either HoldsAnswer (lt Config.«instant_upper_bound_loss_offset» ratio) _ _
     (either HoldsAnswer (lt Config.«high_loss_rate_threshold» ratio) _ _
-    (either HoldsAnswer (eqb (Rate.minus cap taken .refusal) 0) _ Rate.refused (maximum-fits _ _ (difference-holds cap taken) (ofBits-fits binary64 _)) zero-holds)
-    (over-fits _ _))
+    (either HoldsAnswer (eqb (Rate.minus cap taken .refusal) 0) _ Rate.refused (maximum-by Holds _ _ (λ h. difference-holds cap taken) (ofBits-fits binary64 _)) zero-holds)
+    (over-holds _ _))
     infinite-holds
 
 -- whatever ceiling is cached
@@ -149,34 +149,27 @@ ceiling-holds o h t =
 
 capacity-holds : (on : Bool) (link : OptionBitrate) → TakenOption link → Holds (Bound.capacity on link .bps)
 unfolding Bound.capacity Bound.atMost Rate.smaller
-capacity-holds true (Some r) t = either HoldsRate (finite (r .bps)) _ _ (minimum-fits (inf false) (r .bps) infinite-holds (t .holds)) infinite-holds
+capacity-holds true (Some r) t = either HoldsRate (finite (r .bps)) _ _ (minimum-by Holds (inf false) (r .bps) (λ h. infinite-holds) (t .holds)) infinite-holds
 capacity-holds true None t = infinite-holds
 capacity-holds false link t = infinite-holds
-
--- not refused, and what it leaves
-pub record Updated (a : EstimatorAnswer) : Type 0 where
-  pub refusal : a .refusal ≡ 0
-  pub rates : Rates (a .estimator)
-  pub steady : Steady (a .estimator)
 
 rows-taken : (o : Observations) (h : History) → Tied o h → Rows.rows o .refusal ≡ 0
 unfolding Rows.rows
 rows-taken o h t = rw (tied-readable o h t)
 
-pub updated-taken : (c : LossController) (h : History) → Tied (c .observations) h → Keeps c → T (Report.hasValidEstimate c) → Updated (Report.updatedEstimator c)
+pub updated-taken : (c : LossController) (h : History) → Tied (c .observations) h → Keeps c → T (Report.hasValidEstimate c) → Taken (Report.updatedEstimator c)
 unfolding Report.hasValidEstimate Report.updatedEstimator Report.bounds Report.report
 updated-taken c h t k f =
     let o = c .observations in
     let e = c .estimator in
     let b = Report.bounds c in
     let ratio = Ratio.reported o in
-    let fit = bound-fits b (capacity-holds (Setters.isInAlr c) (c .inputs .«link_capacity_estimate») (k .capacity)) (k .rates .limit .holds) (ceiling-holds o h t) (k .delay .holds) in
+    let fit = bound-holds b (capacity-holds (Setters.isInAlr c) (c .inputs .«link_capacity_estimate») (k .capacity)) (k .rates .limit .holds) (ceiling-holds o h t) (k .delay .holds) in
     let choice = chosen (e .«current_estimate») b (Rows.rows o .rows) (ratio .value) (k .rates .current f) f (k .delay .above) (k .acknowledged .above) fit (rows-sent o (k .sent)) in
-    let taken = not-refused e _ (Report.report c (ratio .value)) (k .steady) (k .timely) in
-    checked-by Updated (Rows.rows o .refusal)
-    (λ z. checked-by Updated (ratio .refusal)
-    (λ z. checked-by Updated _
-    (λ z. record { refusal = taken .refusal; rates = applied-rates e _ (Report.report c (ratio .value)) (k .rates) f (choice .1); steady = taken .steady })
+    checked-by Taken (Rows.rows o .refusal)
+    (λ z. checked-by Taken (ratio .refusal)
+    (λ z. checked-by Taken _
+    (λ z. not-refused e _ (Report.report c (ratio .value)) (k .steady) (k .rates) f (choice .1) (k .timely))
     (λ r. absurd (r (choice .0))))
     (λ r. absurd (r (ap (λ (a : FloatAnswer). a .refusal) (tied-reported o h t)))))
     (λ r. absurd (r (rows-taken o h t)))

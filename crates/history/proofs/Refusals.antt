@@ -18,7 +18,7 @@ use Rattle.observation.specs.Window as Window
 use Rattle.observation.specs.declared.Observations.{Observations}
 use Rattle.observation.specs.declared.AddedAnswer.{AddedAnswer}
 use Rattle.estimator.specs.declared.Estimator.{Estimator}
-use Rattle.estimator.proofs.Steady.{Timely, Steady}
+use Rattle.estimator.proofs.Steady.{Timely, Steady, Rates}
 use Rattle.loss_controller.specs.Controller.{answered, refused, checked, withObservations, withEstimator, withInputs}
 use Rattle.loss_controller.specs.Setters as Setters
 use Rattle.loss_controller.specs.Report as Report
@@ -34,12 +34,12 @@ use Rattle.history.specs.Refusals.{first, stateRefusal, reportRefusal, r
 use Rattle.history.specs.Run.{capacityOf, startOf, step}
 use Rattle.history.proofs.Kept.{Part, lost-part}
 use Rattle.history.proofs.Sums.{summed, refusal-of-packets}
-use Rattle.history.proofs.Tied.{Tied, added-by, added-tied}
+use Rattle.observation.proofs.Added.{added-by}
+use Rattle.history.proofs.Tied.{Tied, added-tied}
 use Rattle.history.proofs.Run.{always}
 use Rattle.history.proofs.Step.{Invariant, initial-tied, step-kept}
 use Rattle.history.proofs.Weighed.{tied-reported}
-use Rattle.history.proofs.Sent.{AllSent, cleared-sent, added-sent}
-use Rattle.history.proofs.Estimated.{Rates}
+use Rattle.observation.proofs.Sent.{AllSent, cleared-sent, added-sent}
 use Rattle.history.proofs.Observed.{Counted, Parted, cleared-counted, added-counted, added-refusal, summary-parted}
 use Rattle.history.proofs.Reached.{TakenRate, TakenOption, rate-taken, capacity-taken, Keeps, initial-keeps, updated-taken}
 

@@ -9,7 +9,7 @@ use borrow.Author.Tests.{ltb-false}
 use lib.Dec.{eqb, leb, ltb, lit<}
 use lib.IntN.{pos}
 use lib.Ieee.{eq, lt, ofBits}
-use Rattle.float.proofs.Refusal.{accepted, tested, checked}
+use Rattle.float.proofs.Refusal.{accepted}
 use Rattle.rounding.specs.Ratio.{lossRatio}
 use Rattle.bandwidth.specs.Size as Size
 use Rattle.time.specs.Delta as Delta
@@ -26,6 +26,7 @@ use Rattle.observation.specs.declared.PartialAnswer.{PartialAnswer}
 use Rattle.observation.specs.declared.Observation.{Observation}
 use Rattle.observation.specs.declared.Observations.{Observations}
 use Rattle.observation.specs.declared.AddedAnswer.{AddedAnswer}
+use Rattle.observation.proofs.Added.{sums, span, added-by}
 use Rattle.observation.proofs.Plain.{completes-after}
 use Rattle.history.specs.History.{Pair, History, nothing, fresh, heldOr, completed, running, reported}
 use Rattle.history.proofs.Kept.{Part, Kept, emptied-kept, completed-kept, running-kept}
@@ -70,38 +71,6 @@ reset-tied n on = record {
 -- at the start, a fresh history
 pub fresh-tied : Tied (Window.cleared 0) fresh
 fresh-tied = reset-tied 0 false
-
--- ---- what a report leaves: a refusal, an observation more, or running sums
-
-module _ (o : Observations) (s : PacketResultsSummary) where
-  abbrev sums : PartialAnswer
-  sums = Partial.updated (o .«partial_observation») s
-
-  abbrev from : Timestamp
-  from = Window.reference (o .«last_send_time_most_recent_observation») (Exact (s .«last_send_time»))
-
-  abbrev pub span : TimeDelta
-  span = Time.since (Exact (s .«last_send_time»)) from
-
-  abbrev stored : Observations
-  stored = Window.stored o (Window.observed (sums .partial) (o .«num_observations») span .observation) (Exact (s .«last_send_time»))
-
-  -- what holds of each of the three holds of the answer
-  pub added-by : (P : AddedAnswer → Type 0)
-      → ((refusal : ℕ) → (refusal ≡ 0 → ⊥) → P (Window.refused o refusal))
-      → (sums .refusal ≡ 0 → Window.completes span ≡ true → Window.observed (sums .partial) (o .«num_observations») span .refusal ≡ 0
-      → P (record { observations = Window.withCeiling stored (Ratio.instantUpperBound stored .rate); completed = true; refusal = 0 }))
-      → (sums .refusal ≡ 0 → Window.completes span ≡ false → P (record { observations = Window.withPartial o (sums .partial) from; completed = false; refusal = 0 }))
-      → P (Window.added o s)
-  unfolding Window.added Window.completed Window.renewed
-  added-by P refused more less =
-      let new = Window.observed (sums .partial) (o .«num_observations») span .refusal in
-      let ceiling = Ratio.instantUpperBound stored .refusal in
-      tested P (eqb (sums .refusal) 10) (λ e. refused 10 (λ z. omega arith))
-      (λ e. tested P (Window.full o span) (λ f. refused 11 (λ z. omega arith))
-      (λ f. checked P (sums .refusal)
-      (λ u. tested P (Window.completes span) (λ c. checked P new (λ n. checked P ceiling (λ r. more u c n) (refused ceiling)) (refused new)) (less u))
-      (refused (sums .refusal))))
 
 -- ---- what the running sums and a new observation are, where they are not refused
 

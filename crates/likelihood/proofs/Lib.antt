@@ -1,1 +1,3 @@
 pub mod Probability
+pub mod Probable
+pub mod Judged

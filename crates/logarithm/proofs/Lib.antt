@@ -1,3 +1,4 @@
 pub mod Exponent
 pub mod Steps
 pub mod Table
+pub mod Logarithms

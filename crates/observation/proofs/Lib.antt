@@ -3,3 +3,5 @@ pub mod Plain
 pub mod Rows
 pub mod Sizes
 pub mod Sums
+pub mod Added
+pub mod Sent

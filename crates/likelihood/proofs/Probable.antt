@@ -1,5 +1,4 @@
--- A loss probability and its complement have logarithms, at any rate of binary64 that is sent and any bandwidth that is not negative where it is finite.
--- Assumes nothing.
+-- A loss probability and its complement have logarithms, at any sending rate of binary64 and any bandwidth that is not negative. Assumes nothing.
 use Prim.Native.Nat.{ℕ, _+_, _-_, _*_, _≤_, _<_}
 use mathlib.Core.Path.{_≡_, refl}
 use mathlib.Core.Bool.{true, false, _&&_, true≢false}
@@ -17,28 +16,26 @@ use lib.Ieee.Scale.{finite}
 use Rattle.float.specs.Rounded.{bits, _⊖_, _⊘_}
 use Rattle.float.specs.Answer.{clamped}
 use Rattle.float.proofs.Exact.{fits-says, held-exact}
+use Rattle.float.proofs.NotNan.{NotNan, add-not-nan, mul-not-nan}
+use Rattle.float.proofs.NotNegative.{upward, round-upward, above-upward}
 use Rattle.float.proofs.Refusal.{tested}
 use Rattle.float.proofs.Values.{yes}
 use Rattle.bandwidth.specs.declared.Bitrate.{Bitrate}
 use Rattle.logarithm.specs.Ln.{one, logarithm}
+use Rattle.logarithm.proofs.Logarithms.{logarithm-between}
 use Rattle.rounding.specs.Plain.{plain}
 use Rattle.rounding.proofs.Operations.{sub-is, div-is, lt-is}
 use Rattle.rounding.proofs.Order.{Under, under-of-not-lt, round-under}
 use Rattle.likelihood.specs.Probability.{least, congested, probability}
 use Rattle.likelihood.proofs.Probability.{difference-taken}
-use Rattle.history.proofs.NotNegative.{upward, NotNegative, not-negative-plain, above-not-negative, round-not-negative}
-use Rattle.history.proofs.NotNan.{NotNan, add-not-nan, mul-not-nan}
-use Rattle.history.proofs.Logarithms.{logarithm-between}
 
 -- ---- what is finite
 
--- what is not negative and no more than a finite float is finite
-finite-below : (x y : Float) → NotNegative x → T (finite y) → T (le x y) → T (finite x)
+-- what has its sign clear and is no more than a finite float is finite
+finite-below : (x y : Float) → T (upward x) → T (finite y) → T (le x y) → T (finite x)
 unfolding le
-finite-below nan y n f h = absurd (n .above)
-finite-below (inf true) y n f h = absurd (n .above)
-finite-below (inf false) (fin t m e) n f h = absurd h
-finite-below (fin s m e) y n f h = tt
+finite-below (inf false) (fin t m e) u f h = absurd h
+finite-below (fin s m e) y u f h = tt
 
 one-finite : T (finite (round binary64 false 1 1))
 unfolding round
@@ -46,30 +43,31 @@ one-finite = tt
 
 -- a fraction of 1 at most
 part-finite : (a c : ℕ) → 0 < c → a ≤ c → T (finite (round binary64 false a c))
-part-finite a c C h = finite-below _ _ (round-not-negative a c) one-finite (round-mono binary64 a c 1 1 C (lit< tt) (flat a c h))
+part-finite a c C h = finite-below _ _ (round-upward a c) one-finite (round-mono binary64 a c 1 1 C (lit< tt) (flat a c h))
   where
     flat : (a c : ℕ) → a ≤ c → a * 1 ≤ 1 * c
     flat a c h = omega arith
 
 -- ---- the inherent loss, clamped to 0 and 1
 
-record Kept (i : Float) : Type 0 where
+-- it and what is left of 1 are finite
+record FiniteLoss (i : Float) : Type 0 where
   itself : T (finite i)
   rest : T (finite (one ⊖ i))
 
-kept-between : (x : Float) → NotNan x → lt x (bits 0) ≡ false → lt one x ≡ false → Kept x
+loss-between : (x : Float) → NotNan x → lt x (bits 0) ≡ false → lt one x ≡ false → FiniteLoss x
 unfolding isNan lt ofBits sub add
-kept-between nan n l h = absurd (true≢false n)
-kept-between (inf true) n l h = absurd (true≢false l)
-kept-between (inf false) n l h = absurd (true≢false h)
-kept-between (fin true m e) n l h = record { itself = tt; rest = part-finite (1 * down e + m * up e * 1) (1 * down e) (mul-pos (lit< tt) (down-pos e)) (omega (arith, ltb-false)) }
-kept-between (fin false m e) n l h = record { itself = tt; rest = rw h (part-finite (1 * down e - m * up e * 1) (1 * down e) (mul-pos (lit< tt) (down-pos e)) (omega arith)) }
+loss-between nan n l h = absurd (true≢false n)
+loss-between (inf true) n l h = absurd (true≢false l)
+loss-between (inf false) n l h = absurd (true≢false h)
+loss-between (fin true m e) n l h = record { itself = tt; rest = part-finite (1 * down e + m * up e * 1) (1 * down e) (mul-pos (lit< tt) (down-pos e)) (omega (arith, ltb-false)) }
+loss-between (fin false m e) n l h = record { itself = tt; rest = rw h (part-finite (1 * down e - m * up e * 1) (1 * down e) (mul-pos (lit< tt) (down-pos e)) (omega arith)) }
 
-inherent-kept : (x : Float) → NotNan x → Kept (clamped x (bits 0) one .value)
+inherent-finite : (x : Float) → NotNan x → FiniteLoss (clamped x (bits 0) one .value)
 unfolding clamped le lt ofBits sub
-inherent-kept x n =
-    tested Kept (lt x (bits 0)) (λ h. record { itself = tt; rest = tt })
-    (λ l. tested Kept (lt one x) (λ h. record { itself = tt; rest = tt }) (kept-between x n l))
+inherent-finite x n =
+    tested FiniteLoss (lt x (bits 0)) (λ h. record { itself = tt; rest = tt })
+    (λ l. tested FiniteLoss (lt one x) (λ h. record { itself = tt; rest = tt }) (loss-between x n l))
 
 -- ---- the share of what is sent that is above the bandwidth
 
@@ -82,13 +80,14 @@ plain-exact (fin false m e) p f =
 value-finite : (x : Float) (a c : ℕ) → HasValue x false a c → T (finite x)
 value-finite (fin s m e) a c v = tt
 
-plain-upward : (x : Float) → T (plain x) → T (upward x)
-plain-upward (fin s m e) p = p
+upward-plain : (x : Float) → T (upward x) → T (finite x) → T (plain x)
+upward-plain (fin s m e) u f = u
 
 -- the difference is no more than s, so it is finite, and divided by s it is 1 at most
-share-finite : (s l : Float) → T (fits binary64 s) → T (finite s) → T (plain l) → lt l s ≡ true → T (finite ((s ⊖ l) ⊘ s))
-share-finite s l fit f p h =
-    let S : T (plain s) = not-negative-plain s (record { holds = fit; above = above-not-negative l s (plain-upward l p) h }) f in
+share-finite : (s l : Float) → T (fits binary64 s) → T (finite s) → T (finite l) → T (upward l) → lt l s ≡ true → T (finite ((s ⊖ l) ⊘ s))
+share-finite s l fit f g up h =
+    let S : T (plain s) = upward-plain s (above-upward l s up h) f in
+    let p : T (plain l) = upward-plain l up g in
     let less : num l * den s < num s * den l = ltb-true _ _ (rw (lt-is l s p S) at h) in
     let z = num s * den l - num l * den s in
     let c = den s * den l in
@@ -99,9 +98,9 @@ share-finite s l fit f p h =
     let F : T (finite whole) = value-finite whole _ _ v in
     let d = s ⊖ l in
     let d-is : d ≡ round binary64 false z c = sub-is s l z S p (sub-add-cancel (le-of-lt less)) in
-    let n : NotNegative d = rw d-is (round-not-negative z c) in
-    let D : T (plain d) = not-negative-plain d n (finite-below d whole n F (rw d-is (round-mono binary64 z c (num s) (den s) C (den-pos s) small))) in
-    let u : Under d whole = round-under z c (num s) (den s) d-is refl C (den-pos s) small D (not-negative-plain whole (round-not-negative (num s) (den s)) F) in
+    let n : T (upward d) = rw d-is (round-upward z c) in
+    let D : T (plain d) = upward-plain d n (finite-below d whole n F (rw d-is (round-mono binary64 z c (num s) (den s) C (den-pos s) small))) in
+    let u : Under d whole = round-under z c (num s) (den s) d-is refl C (den-pos s) small D (upward-plain whole (round-upward (num s) (den s)) F) in
     let pos : 0 < num s = first-pos (num s) (den l) (omega arith) in
     rw (div-is d s D S pos)
     (part-finite (num d * den s) (num s * den d) (mul-pos pos (den-pos d))
@@ -111,17 +110,17 @@ share-finite s l fit f p h =
     turned z a b e h = let k = mul-le-mul-right e h in omega arith
 
 congested-not-nan :
-    (i : Float) (limited sending : Bitrate) → Kept i → (T (finite (limited .bps)) → T (plain (limited .bps))) → T (fits binary64 (sending .bps)) →
+    (i : Float) (limited sending : Bitrate) → FiniteLoss i → T (upward (limited .bps)) → T (fits binary64 (sending .bps)) →
     NotNan (congested i limited sending)
 unfolding congested
-congested-not-nan i limited sending k p fit =
+congested-not-nan i limited sending k u fit =
     let s = sending .bps in
     let l = limited .bps in
     tested NotNan (finite s && finite l && lt l s)
     (λ h.
     let both : T (finite s && finite l) = and-l (finite s && finite l) (lt l s) (yes h) in
     let less : lt l s ≡ true = is-true (lt l s) (and-r (finite s && finite l) (lt l s) (yes h)) in
-    let share = share-finite s l fit (and-l (finite s) (finite l) both) (p (and-r (finite s) (finite l) both)) less in
+    let share = share-finite s l fit (and-l (finite s) (finite l) both) (and-r (finite s) (finite l) both) u less in
     rw (difference-taken sending limited less)
     (add-not-nan i _ (k .itself) (mul-not-nan (one ⊖ i) ((s ⊖ l) ⊘ s) (k .rest) share)))
     (λ h. finite-not-nan i (k .itself))
@@ -172,10 +171,10 @@ clamped-probable x n =
     (λ l. tested Probable (lt most x) (λ h. between-probable most tt tt)
     (λ h. let p = inside-plain x n l h in between-probable x (under-le least x (under-of-not-lt p tt l)) (under-le x most (under-of-not-lt tt p h))))
 
--- so it is with the probability of a rate of binary64 under a bandwidth that is not negative where it is finite
+-- so it is with the probability of a rate of binary64 under a bandwidth that is not negative
 pub probability-probable :
-    (inherent : Float) (limited sending : Bitrate) → NotNan inherent → (T (finite (limited .bps)) → T (plain (limited .bps))) → T (fits binary64 (sending .bps)) →
+    (inherent : Float) (limited sending : Bitrate) → NotNan inherent → T (upward (limited .bps)) → T (fits binary64 (sending .bps)) →
     Probable (probability inherent limited sending)
 unfolding probability
-probability-probable inherent limited sending n p fit =
-    clamped-probable _ (congested-not-nan _ limited sending (inherent-kept inherent n) p fit)
+probability-probable inherent limited sending n u fit =
+    clamped-probable _ (congested-not-nan _ limited sending (inherent-finite inherent n) u fit)

@@ -2,36 +2,29 @@
 use mathlib.Core.Path.{_≡_, refl}
 use mathlib.Core.List.{List}
 use lib.Dec.{T}
-use lib.Ieee.{Float, binary64, fits, lt}
+use lib.Ieee.{Float, lt}
 use lib.Ieee.Scale.{finite}
+use Rattle.float.proofs.Each.{Each, each-take, each-fold}
 use Rattle.float.proofs.Refusal.{either, checked}
-use Rattle.candidates.specs.Bound.{upperBound}
-use Rattle.candidates.specs.Candidate as Candidate
-use Rattle.candidates.specs.Choice as Choice
-use Rattle.candidates.specs.declared.Bounds.{Bounds}
+use Rattle.bandwidth.proofs.NotNegativeRate.{HoldsRate}
 use Rattle.likelihood.specs.Newton.{newton}
 use Rattle.likelihood.specs.Objective.{objective}
 use Rattle.likelihood.specs.declared.ChannelParameters.{ChannelParameters}
 use Rattle.likelihood.specs.declared.Row.{Row}
-use Rattle.history.proofs.Each.{Each, each-take, each-fold}
-use Rattle.history.proofs.NotNegative.{NotNegative}
-use Rattle.history.proofs.NotNan.{feasible-not-nan}
-use Rattle.history.proofs.Judged.{Sent, objective-taken}
-use Rattle.history.proofs.Offered.{Fair, candidates-fair}
-
--- the type of the best so far, which has no name outside its crate
-abbrev codomain : {A B : Type 0} → (A → B) → Type 0
-codomain {A} {B} f = B
-
-abbrev Best : Type 0
-Best = codomain Choice.start
+use Rattle.likelihood.proofs.Judged.{SentRow, feasible-not-nan, objective-taken}
+use Rattle.candidates.specs.Bound.{upperBound}
+use Rattle.candidates.specs.Candidate as Candidate
+use Rattle.candidates.specs.Choice as Choice
+use Rattle.candidates.specs.declared.Best.{Best}
+use Rattle.candidates.specs.declared.Bounds.{Bounds}
+use Rattle.candidates.proofs.Offered.{Fair, FairWhereFinite, candidates-fair}
 
 -- the best so far, none refused
 record Good (b : Best) : Type 0 where
   taken : b .refusal ≡ 0
   fair : Fair (b .«best_candidate»)
 
-module _ (rows : List Row) (ratio : Float) (sent : Each Sent rows) where
+module _ (rows : List Row) (ratio : Float) (sent : Each SentRow rows) where
   better-good : (b : Best) (p : ChannelParameters) → Good b → Fair p → Good (Choice.better rows ratio b p)
   unfolding Choice.better Choice.judged newton
   better-good b p g n =
@@ -46,14 +39,12 @@ module _ (rows : List Row) (ratio : Float) (sent : Each Sent rows) where
 -- both hold for rows of rates of binary64, where the current rate is finite and not negative, and the two estimates are not negative where they are finite
 pub chosen :
     (current : ChannelParameters) (b : Bounds) (rows : List Row) (ratio : Float) →
-    NotNegative (current .«loss_limited_bandwidth» .bps) → T (finite (current .«loss_limited_bandwidth» .bps)) →
-    (T (finite (b .«delay_based_estimate» .bps)) → NotNegative (b .«delay_based_estimate» .bps)) →
-    (T (finite (b .«acknowledged_bitrate» .bps)) → NotNegative (b .«acknowledged_bitrate» .bps)) →
-    T (fits binary64 (upperBound b .bps)) → Each Sent rows →
-    let choice = Choice.choice current (Candidate.candidates current b) rows ratio in
-    (choice .refusal ≡ 0) × NotNegative (choice .best .«loss_limited_bandwidth» .bps)
+    Fair current → T (finite (current .«loss_limited_bandwidth» .bps)) →
+    FairWhereFinite (b .«delay_based_estimate») → FairWhereFinite (b .«acknowledged_bitrate») → HoldsRate (upperBound b) → Each SentRow rows →
+    let choice = Choice.choice current (Candidate.candidates current b) rows ratio in (choice .refusal ≡ 0) × Fair (choice .best)
 unfolding Choice.choice Choice.answered
 chosen current b rows ratio n f d a u sent =
     let used = Choice.used (Candidate.candidates current b .count) in
-    let g = each-fold Good (Choice.better rows ratio) (better-good rows ratio sent) (Choice.start current) (record { taken = refl; fair = n }) (each-take used (candidates-fair current b n f d a u)) in
+    let fair = each-take used (candidates-fair current b n f d a u) in
+    let g = each-fold Good (Choice.better rows ratio) (better-good rows ratio sent) (Choice.start current) (record { taken = refl; fair = n }) fair in
     rw (g .taken) (refl, g .fair)

@@ -7,7 +7,7 @@ use native.Mathlib.Omega.{arith}
 use lib.Dec.{T, leb, leb→le, nleb→lt, lit≤, lit<}
 use lib.IntN.{ℤ, pos, negsuc}
 use lib.Pow.{pow-add, pow-mono, pow-pos}
-use lib.Ieee.{Float, fin, binary64, up, down, round, le, fits, ofBits}
+use lib.Ieee.{Float, fin, binary64, up, down, round, sum, add, le, fits, ofBits}
 use lib.Ieee.Fits.{down-pos}
 use lib.Ieee.Bits.{is-true}
 use lib.Ieee.Order.{round-mono}
@@ -15,9 +15,8 @@ use lib.Ieee.Positive.{positive, between, le-trans-positive}
 use lib.Ieee.Scale.{finite}
 use Rattle.float.specs.Rounded.{bits, _⊕_}
 use Rattle.float.proofs.Exact.{fits-says}
+use Rattle.float.proofs.NotNegative.{NotNegative}
 use Rattle.logarithm.specs.Ln.{one, logarithm}
-use Rattle.rounding.proofs.Operations.{add-is}
-use Rattle.history.proofs.NotNegative.{NotNegative}
 
 -- ---- between two normal floats
 
@@ -83,14 +82,13 @@ one-normal = tt
 
 -- 1 more than what is finite and not negative has a logarithm
 pub one-more : (x : Float) → NotNegative x → T (finite x) → logarithm (one ⊕ x) .refusal ≡ 0
-unfolding ofBits
+unfolding ofBits add sum
 one-more (fin true m e) n f = absurd (n .above)
 one-more (fin false m e) n f =
     let d : 0 < 1 * down e = rw one-mul (down-pos e) in
-    rw (add-is one (fin false m e) tt tt)
-    (logarithm-between one _ top tt top-positive one-normal top-finite
+    logarithm-between one _ top tt top-positive one-normal top-finite
     (rw one-is (round-mono binary64 1 1 (1 * down e + m * up e * 1) (1 * down e) (lit< tt) d (least (m * up e) (down e))))
-    (round-mono binary64 (1 * down e + m * up e * 1) (1 * down e) (most + 1) 1 d (lit< tt) (at-most (m * up e) (down e) most (fits-most m e (n .holds)))))
+    (round-mono binary64 (1 * down e + m * up e * 1) (1 * down e) (most + 1) 1 d (lit< tt) (at-most (m * up e) (down e) most (fits-most m e (n .holds))))
   where
     least : (a d : ℕ) → 1 * (1 * d) ≤ (1 * d + a * 1) * 1
     least a d = omega arith
