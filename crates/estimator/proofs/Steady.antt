@@ -27,7 +27,7 @@ use Rattle.config.specs.Config.{«delayed_increase_window», «congestion_contr
 use Rattle.likelihood.specs.declared.ChannelParameters.{ChannelParameters}
 use Rattle.estimator.specs.State.{isLimitedDueToLoss, isDecreasing}
 use Rattle.estimator.specs.Hold as Hold
-use Rattle.estimator.specs.Window as Window
+use Rattle.estimator.specs.Recovery as Recovering
 use Rattle.estimator.specs.Increase as Increase
 use Rattle.estimator.specs.Update as Update
 use Rattle.estimator.specs.declared.LossControllerState.{LossControllerState}
@@ -89,28 +89,28 @@ least-not-negative = record { holds = ofBits-fits binary64 _; above = unfold ofB
 -- ---- each step, at a rate that is not negative
 module _ (best : Bitrate) (n : NotNegativeRate best) (t : Timestamp) where
   module _ (w : Recovery) (s : Timely (w .«recovering_after_loss_timestamp»)) (l : NotNegativeRate (w .«bandwidth_limit_in_current_window»)) where
-    end-taken : Window.windowEnd w .refusal ≡ 0
-    unfolding Window.windowEnd
+    end-taken : Recovering.windowEnd w .refusal ≡ 0
+    unfolding Recovering.windowEnd
     end-taken = plus-taken (w .«recovering_after_loss_timestamp») «delayed_increase_window» s (lit≤ tt)
 
-    bounded-taken : TakenRate (Window.bounded w best t)
-    unfolding Window.bounded
+    bounded-taken : TakenRate (Recovering.bounded w best t)
+    unfolding Recovering.bounded
     bounded-taken =
-        let above = Window.isAboveLimit w best (Window.windowEnd w .time) t in
+        let above = Recovering.isAboveLimit w best (Recovering.windowEnd w .time) t in
         rw end-taken (record { refusal = refl; rate = either NotNegativeRate above _ best l n })
 
-    opened-taken : Timely t → TakenRecovery (Window.answered (Window.opened w best t))
-    unfolding Window.opened Rate.larger Rate.times
+    opened-taken : Timely t → TakenRecovery (Recovering.answered (Recovering.opened best t))
+    unfolding Recovering.opened Rate.larger Rate.times
     opened-taken h = record { refusal = refl; start = h; limit = maximum-not-negative _ least-not-negative (mul-fits binary64 (best .bps) _) }
 
-    renewed-taken : (state : LossControllerState) → Timely t → TakenRecovery (Window.renewed w state best t)
-    unfolding Window.renewed
+    renewed-taken : (state : LossControllerState) → Timely t → TakenRecovery (Recovering.renewed w state best t)
+    unfolding Recovering.renewed
     renewed-taken state h =
-        let kept : TakenRecovery (Window.answered w) = record { refusal = refl; start = s; limit = l } in
-        let over = Window.isOver w (Window.windowEnd w .time) t in
+        let kept : TakenRecovery (Recovering.answered w) = record { refusal = refl; start = s; limit = l } in
+        let over = Recovering.isOver w (Recovering.windowEnd w .time) t in
         rw end-taken
         (either TakenRecovery (isLimitedDueToLoss state) _ _
-        (either (λ (v : Recovery). TakenRecovery (Window.answered v)) over (Window.opened w best t) w (opened-taken h) kept)
+        (either (λ (v : Recovery). TakenRecovery (Recovering.answered v)) over (Recovering.opened best t) w (opened-taken h) kept)
         kept)
 
   entered-taken : (h : HoldInfo) → h .duration .nanos ≤ 60000000000 → Timely t → TakenHold (Hold.entered h best t)
@@ -129,7 +129,7 @@ module _ (e : Estimator) (s : Steady e) (k : Rates e) (c : NotNegativeRate (Incr
   limited-taken : (best : Bitrate) (r : Report) → NotNegativeRate best → TakenRate (Increase.increaseLimitedDueToLoss e best r)
   unfolding Increase.increaseLimitedDueToLoss
   limited-taken best r n =
-      let within = Window.bounded (e .recovery) best (r .«last_send_time») in
+      let within = Recovering.bounded (e .recovery) best (r .«last_send_time») in
       let t = bounded-taken best n (r .«last_send_time») (e .recovery) (s .start) (k .limit) in
       either TakenRate
       (eqb (within .refusal) 0 && (Increase.isEstimateIncreasingWhenLossLimited e (within .rate) && finite (r .«acknowledged_bitrate» .bps)))

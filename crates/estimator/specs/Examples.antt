@@ -15,7 +15,7 @@ use Rattle.time.specs.declared.Timestamp.{Timestamp}
 use Rattle.time.specs.declared.Timestamp.the-variants.{DistantPast, Exact, DistantFuture}
 use Rattle.estimator.specs.State.{number}
 use Rattle.estimator.specs.Hold as Hold
-use Rattle.estimator.specs.Window as Window
+use Rattle.estimator.specs.Recovery as Recovering
 use Rattle.estimator.specs.Increase as Increase
 use Rattle.estimator.specs.Update as Update
 use Rattle.estimator.specs.declared.LossControllerState.the-variants.{DelayBased}
@@ -44,7 +44,7 @@ view e =
     ∷ nanos (e .«last_hold_info» .timestamp)
     ∷ e .«last_hold_info» .duration .nanos
     ∷ toBits binary64 (e .«last_hold_info» .rate .bps)
-    ∷ nanos (e .recovery .«last_time_estimate_reduced»)
+    ∷ nanos (e .«last_time_estimate_reduced»)
     ∷ nanos (e .recovery .«recovering_after_loss_timestamp»)
     ∷ toBits binary64 (e .recovery .«bandwidth_limit_in_current_window» .bps)
     ∷ []
@@ -71,7 +71,8 @@ started =
       state = DelayBased;
       «current_estimate» = record { «inherent_loss» = bits 0x3F847AE147AE147B; «loss_limited_bandwidth» = Rate.rate (bits 0x41224F8000000000) };
       «last_hold_info» = Hold.initial;
-      recovery = Window.initial;
+      «last_time_estimate_reduced» = DistantPast;
+      recovery = Recovering.initial;
     }
 
 run : Estimator → List (Estimator → Estimator) → List (List ℕ)
@@ -100,11 +101,11 @@ run-examples :
     ∷ (2 ∷ 0x411E848000000000 ∷ 2800000000 ∷ 1200000000 ∷ 0x411E848000000000 ∷ 2200000000 ∷ 2200000000 ∷ 0x4123D62000000000 ∷ [])
     ∷ (0 ∷ 0x412B774000000000 ∷ 0 ∷ 300000000 ∷ 0x7FF0000000000000 ∷ 2200000000 ∷ 2200000000 ∷ 0x4123D62000000000 ∷ [])
     ∷ []
-unfolding add div eq isNan le lt mul ofBits ofInt toBits minimum maximum ordered seconds fitted nearestNanos fromSeconds Rate.larger Rate.smaller Rate.times Rate.plus Nanos.fitted Time.plus Time.order Hold.twice Hold.doubled Hold.entered Window.windowEnd Window.isAboveLimit Window.bounded Window.isOver Window.opened Window.renewed Increase.notIncreasedAboveInherentLoss Increase.isEstimateIncreasingWhenLossLimited Increase.rampupFactor Increase.withinRampup Increase.rampedUp Increase.increaseLimitedDueToLoss Increase.increaseLimited Update.firstRefusal Update.withReductionNoted Update.isInHold Update.held Update.isLimiting Update.newState Update.newHoldInfo Update.withNewState Update.decided Update.updated Update.applied nanos view report started run
+unfolding add div eq isNan le lt mul ofBits ofInt toBits minimum maximum ordered seconds fitted nearestNanos fromSeconds Rate.larger Rate.smaller Rate.times Rate.plus Nanos.fitted Time.plus Time.order Hold.twice Hold.doubled Hold.entered Recovering.windowEnd Recovering.isAboveLimit Recovering.bounded Recovering.isOver Recovering.opened Recovering.renewed Increase.notIncreasedAboveInherentLoss Increase.isEstimateIncreasingWhenLossLimited Increase.rampupFactor Increase.withinRampup Increase.rampedUp Increase.increaseLimitedDueToLoss Increase.increaseLimited Update.firstRefusal Update.withReductionNoted Update.isInHold Update.held Update.isLimiting Update.newState Update.newHoldInfo Update.withNewState Update.decided Update.updated Update.applied nanos view report started run
 run-examples = refl
 
 -- a hold entered at the last instant would end at none: refused, and unchanged, though the rate is a reduction
 refused-example :
     answer 0x4121652000000000 0x3FB999999999999A 0x411E848000000000 0x412E848000000000 (2 ^ 64 - 1) started ≡ Update.unchanged started 7
-unfolding add isNan eq le lt mul ofBits maximum ordered Rate.larger Rate.times Nanos.fitted Time.plus Time.order Hold.entered Window.windowEnd Window.isOver Window.opened Window.renewed Increase.notIncreasedAboveInherentLoss Increase.isEstimateIncreasingWhenLossLimited Increase.increaseLimited Update.firstRefusal Update.withReductionNoted Update.isInHold Update.isLimiting Update.newState Update.newHoldInfo Update.withNewState Update.decided Update.updated Update.applied answer started
+unfolding add isNan eq le lt mul ofBits maximum ordered Rate.larger Rate.times Nanos.fitted Time.plus Time.order Hold.entered Recovering.windowEnd Recovering.isOver Recovering.opened Recovering.renewed Increase.notIncreasedAboveInherentLoss Increase.isEstimateIncreasingWhenLossLimited Increase.increaseLimited Update.firstRefusal Update.withReductionNoted Update.isInHold Update.isLimiting Update.newState Update.newHoldInfo Update.withNewState Update.decided Update.updated Update.applied answer started
 refused-example = refl

@@ -9,7 +9,7 @@ use Rattle.bandwidth.specs.declared.RateAnswer.{RateAnswer}
 use Rattle.config.specs.Config.{«bandwidth_rampup_hold_threshold», «bandwidth_rampup_upper_bound_factor», «bandwidth_rampup_upper_bound_factor_in_hold»}
 use Rattle.likelihood.specs.declared.ChannelParameters.{ChannelParameters}
 use Rattle.estimator.specs.State.{isLimitedDueToLoss, isIncreasing, isDecreasing}
-use Rattle.estimator.specs.Window.{bounded}
+use Rattle.estimator.specs.Recovery.{bounded}
 use Rattle.estimator.specs.declared.HoldInfo.{HoldInfo}
 use Rattle.estimator.specs.declared.Estimator.{Estimator}
 use Rattle.estimator.specs.declared.Report.{Report}

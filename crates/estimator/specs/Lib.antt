@@ -1,6 +1,6 @@
 pub mod State
 pub mod Hold
-pub mod Window
+pub mod Recovery
 pub mod Increase
 pub mod Update
 pub mod Starred

@@ -8,11 +8,12 @@ use Rattle.bandwidth.specs.declared.Bitrate.{Bitrate}
 use Rattle.time.specs.Order.{isGt}
 use Rattle.time.specs.Time as Time
 use Rattle.time.specs.declared.Timestamp.{Timestamp}
+use Rattle.time.specs.declared.Timestamp.the-variants.{DistantPast}
 use Rattle.config.specs.Config.{«initial_inherent_loss_estimate»}
 use Rattle.likelihood.specs.declared.ChannelParameters.{ChannelParameters}
 use Rattle.estimator.specs.State.{isDecreasing}
 use Rattle.estimator.specs.Hold as Hold
-use Rattle.estimator.specs.Window as Window
+use Rattle.estimator.specs.Recovery as Recovering
 use Rattle.estimator.specs.Increase.{current, increaseLimited, isEstimateIncreasingWhenLossLimited}
 use Rattle.estimator.specs.declared.LossControllerState.{LossControllerState}
 use Rattle.estimator.specs.declared.LossControllerState.the-variants.{Increasing, Decreasing, DelayBased}
@@ -28,7 +29,8 @@ initial =
       state = DelayBased;
       «current_estimate» = record { «inherent_loss» = «initial_inherent_loss_estimate»; «loss_limited_bandwidth» = Rate.rate (inf true) };
       «last_hold_info» = Hold.initial;
-      recovery = Window.initial;
+      «last_time_estimate_reduced» = DistantPast;
+      recovery = Recovering.initial;
     }
 
 abbrev pub answered : Estimator → EstimatorAnswer
@@ -49,12 +51,8 @@ withReductionNoted e best t =
       state = e .state;
       «current_estimate» = e .«current_estimate»;
       «last_hold_info» = e .«last_hold_info»;
-      recovery =
-          record {
-            «last_time_estimate_reduced» = t;
-            «recovering_after_loss_timestamp» = e .recovery .«recovering_after_loss_timestamp»;
-            «bandwidth_limit_in_current_window» = e .recovery .«bandwidth_limit_in_current_window»;
-          };
+      «last_time_estimate_reduced» = t;
+      recovery = e .recovery;
     })
     e
 
@@ -66,7 +64,7 @@ isInHold e rate r =
     isDecreasing (e .state)
     && (isGt (Time.order (e .«last_hold_info» .timestamp) (r .«last_send_time»)) && lt (rate .bps) (r .«delay_based_estimate» .bps))
 
--- "During HOLD period, cap estimate at HOLD rate"; state, hold and recovery stay
+-- "During HOLD period, cap estimate at HOLD rate"; all else stays
 unfoldable pub held : Estimator → ChannelParameters → Estimator
 held e best =
     record {
@@ -77,6 +75,7 @@ held e best =
             «loss_limited_bandwidth» = Rate.smaller (best .«loss_limited_bandwidth») (e .«last_hold_info» .rate);
           };
       «last_hold_info» = e .«last_hold_info»;
+      «last_time_estimate_reduced» = e .«last_time_estimate_reduced»;
       recovery = e .recovery;
     }
 
@@ -104,9 +103,16 @@ withNewState e best r =
     let rate = best .«loss_limited_bandwidth» in
     let state = newState e rate (r .«delay_based_estimate») in
     let hold = newHoldInfo e state rate (r .«last_send_time») in
-    let window = Window.renewed (e .recovery) state rate (r .«last_send_time») in
+    let window = Recovering.renewed (e .recovery) state rate (r .«last_send_time») in
     record {
-      estimator = record { state = state; «current_estimate» = best; «last_hold_info» = hold .hold; recovery = window .recovery };
+      estimator =
+          record {
+            state = state;
+            «current_estimate» = best;
+            «last_hold_info» = hold .hold;
+            «last_time_estimate_reduced» = e .«last_time_estimate_reduced»;
+            recovery = window .recovery;
+          };
       refusal = firstRefusal (hold .refusal) (window .refusal);
     }
 

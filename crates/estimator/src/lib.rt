@@ -4,7 +4,7 @@
 ghost use mathlib.Core.Path.{_≡_};
 ghost use Rattle.estimator.specs.State as State;
 ghost use Rattle.estimator.specs.Hold as Hold;
-ghost use Rattle.estimator.specs.Window as Window;
+ghost use Rattle.estimator.specs.Recovery as Recovering;
 ghost use Rattle.estimator.specs.Increase as Increase;
 ghost use Rattle.estimator.specs.Update as Update;
 use bandwidth::Bitrate;
@@ -34,10 +34,9 @@ pub struct HoldInfo {
     pub rate: Bitrate,
 }
 
-// When the estimate was last reduced, and the recovery after loss: from its timestamp on, for the
-// delayed increase window, the limit bounds the estimate.
+// The recovery after loss: from its timestamp on, for the delayed increase window, the limit bounds
+// the estimate.
 pub struct Recovery {
-    pub last_time_estimate_reduced: Timestamp,
     pub recovering_after_loss_timestamp: Timestamp,
     pub bandwidth_limit_in_current_window: Bitrate,
 }
@@ -47,6 +46,7 @@ pub struct Estimator {
     pub state: LossControllerState,
     pub current_estimate: ChannelParameters,
     pub last_hold_info: HoldInfo,
+    pub last_time_estimate_reduced: Timestamp,
     pub recovery: Recovery,
 }
 
@@ -189,17 +189,16 @@ pub fn doubled(duration: Duration) -> Duration
 
 impl Recovery {
     pub fn new() -> Recovery
-        ensures { λ r. ⌜ r ≡ Window.initial ⌝ }
+        ensures { λ r. ⌜ r ≡ Recovering.initial ⌝ }
     {
         Recovery {
-            last_time_estimate_reduced: Timestamp::DistantPast,
             recovering_after_loss_timestamp: Timestamp::DistantPast,
             bandwidth_limit_in_current_window: Bitrate::MAX,
         }
     }
 
     fn window_end(self) -> TimestampAnswer
-        ensures { λ r. ⌜ r ≡ Window.windowEnd self ⌝ }
+        ensures { λ r. ⌜ r ≡ Recovering.windowEnd self ⌝ }
     {
         let start = self.recovering_after_loss_timestamp;
         start.add_duration(config::DELAYED_INCREASE_WINDOW)
@@ -207,7 +206,7 @@ impl Recovery {
 
     // The best rate, bounded by the limit while the window runs.
     fn bounded(self, best: Bitrate, last_send_time: Timestamp) -> RateAnswer
-        ensures { λ r. ⌜ r ≡ Window.bounded self best «last_send_time» ⌝ }
+        ensures { λ r. ⌜ r ≡ Recovering.bounded self best «last_send_time» ⌝ }
     {
         let end = self.window_end();
         let refusal = end.refusal;
@@ -226,7 +225,7 @@ impl Recovery {
     }
 
     fn is_above_limit(self, best: Bitrate, window_end: Timestamp, last_send_time: Timestamp) -> bool
-        ensures { λ r. ⌜ r ≡ Window.isAboveLimit self best «window_end» «last_send_time» ⌝ }
+        ensures { λ r. ⌜ r ≡ Recovering.isAboveLimit self best «window_end» «last_send_time» ⌝ }
     {
         let start = self.recovering_after_loss_timestamp;
         let limit = self.bandwidth_limit_in_current_window;
@@ -240,7 +239,7 @@ impl Recovery {
         best: Bitrate,
         last_send_time: Timestamp,
     ) -> RecoveryAnswer
-        ensures { λ r. ⌜ r ≡ Window.renewed self state best «last_send_time» ⌝ }
+        ensures { λ r. ⌜ r ≡ Recovering.renewed self state best «last_send_time» ⌝ }
     {
         if state.is_bandwidth_limited_due_to_loss() {
             let end = self.window_end();
@@ -254,7 +253,7 @@ impl Recovery {
             let window_end = end.time;
             if self.is_over(window_end, last_send_time) {
                 return RecoveryAnswer {
-                    recovery: self.opened(best, last_send_time),
+                    recovery: Recovery::opened(best, last_send_time),
                     refusal: 0,
                 };
             }
@@ -266,20 +265,18 @@ impl Recovery {
     }
 
     fn is_over(self, window_end: Timestamp, last_send_time: Timestamp) -> bool
-        ensures { λ r. ⌜ r ≡ Window.isOver self «window_end» «last_send_time» ⌝ }
+        ensures { λ r. ⌜ r ≡ Recovering.isOver self «window_end» «last_send_time» ⌝ }
     {
         let start = self.recovering_after_loss_timestamp;
         !start.is_exact() || window_end.lt(last_send_time)
     }
 
-    fn opened(self, best: Bitrate, last_send_time: Timestamp) -> Recovery
-        ensures { λ r. ⌜ r ≡ Window.opened self best «last_send_time» ⌝ }
+    fn opened(best: Bitrate, last_send_time: Timestamp) -> Recovery
+        ensures { λ r. ⌜ r ≡ Recovering.opened best «last_send_time» ⌝ }
     {
         let limit = best.mul_f64(config::CONF_MAX_INCREASE_FACTOR);
         let min_bitrate = config::CONGESTION_CONTROLLER_MIN_BITRATE;
-        let last_time_estimate_reduced = self.last_time_estimate_reduced;
         Recovery {
-            last_time_estimate_reduced,
             recovering_after_loss_timestamp: last_send_time,
             bandwidth_limit_in_current_window: min_bitrate.max(limit),
         }
@@ -297,6 +294,7 @@ impl Estimator {
                 loss_limited_bandwidth: Bitrate::neg_infinity(),
             },
             last_hold_info: HoldInfo::default(),
+            last_time_estimate_reduced: Timestamp::DistantPast,
             recovery: Recovery::new(),
         }
     }
@@ -337,17 +335,12 @@ impl Estimator {
             let state = self.state;
             let last_hold_info = self.last_hold_info;
             let recovery = self.recovery;
-            let recovering_after_loss_timestamp = recovery.recovering_after_loss_timestamp;
-            let bandwidth_limit_in_current_window = recovery.bandwidth_limit_in_current_window;
             return Estimator {
                 state,
                 current_estimate,
                 last_hold_info,
-                recovery: Recovery {
-                    last_time_estimate_reduced: last_send_time,
-                    recovering_after_loss_timestamp,
-                    bandwidth_limit_in_current_window,
-                },
+                last_time_estimate_reduced: last_send_time,
+                recovery,
             };
         }
         self
@@ -497,6 +490,7 @@ impl Estimator {
     {
         let state = self.state;
         let last_hold_info = self.last_hold_info;
+        let last_time_estimate_reduced = self.last_time_estimate_reduced;
         let recovery = self.recovery;
         let loss_limited_bandwidth = best.loss_limited_bandwidth;
         Estimator {
@@ -506,6 +500,7 @@ impl Estimator {
                 loss_limited_bandwidth: loss_limited_bandwidth.min(last_hold_info.rate),
             },
             last_hold_info,
+            last_time_estimate_reduced,
             recovery,
         }
     }
@@ -519,6 +514,7 @@ impl Estimator {
         let new_state = self.new_state(rate, report.delay_based_estimate);
         let hold = self.new_hold_info(new_state, rate, last_send_time);
         let last_hold_info = hold.hold;
+        let last_time_estimate_reduced = self.last_time_estimate_reduced;
         let window = self.recovery;
         let renewed = window.renewed(new_state, rate, last_send_time);
         let recovery = renewed.recovery;
@@ -527,6 +523,7 @@ impl Estimator {
                 state: new_state,
                 current_estimate: best,
                 last_hold_info,
+                last_time_estimate_reduced,
                 recovery,
             },
             refusal: first_refusal(hold.refusal, renewed.refusal),

@@ -24,7 +24,7 @@ use Rattle.candidates.specs.Choice as Choice
 use Rattle.estimator.specs.Hold as Hold
 use Rattle.estimator.specs.Increase as Increase
 use Rattle.estimator.specs.Update as Update
-use Rattle.estimator.specs.Window as Recovery
+use Rattle.estimator.specs.Recovery as Recovery
 use Rattle.time.specs.Delta as Delta
 use Rattle.time.specs.Time as Time
 use Rattle.time.specs.Nanos as Nanos

@@ -37,7 +37,7 @@ bounds c =
       «delay_based_estimate» = c .inputs .«delay_based_estimate»;
       «acknowledged_bitrate» = c .inputs .«acknowledged_bitrate»;
       «last_send_time» = c .observations .«last_send_time_most_recent_observation»;
-      «last_time_estimate_reduced» = c .estimator .recovery .«last_time_estimate_reduced»;
+      «last_time_estimate_reduced» = c .estimator .«last_time_estimate_reduced»;
     }
 
 -- and what the steps after the choice read

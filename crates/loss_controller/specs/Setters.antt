@@ -54,6 +54,7 @@ setBandwidthEstimate c r =
       state = c .estimator .state;
       «current_estimate» = record { «inherent_loss» = c .estimator .«current_estimate» .«inherent_loss»; «loss_limited_bandwidth» = r };
       «last_hold_info» = c .estimator .«last_hold_info»;
+      «last_time_estimate_reduced» = c .estimator .«last_time_estimate_reduced»;
       recovery = c .estimator .recovery;
     })))
 

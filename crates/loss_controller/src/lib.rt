@@ -414,7 +414,7 @@ impl LossController {
         let inputs = self.inputs;
         let link_capacity_estimate = inputs.link_capacity_estimate;
         let last_send_time = observations.last_send_time_most_recent_observation;
-        let last_time_estimate_reduced = recovery.last_time_estimate_reduced;
+        let last_time_estimate_reduced = estimator.last_time_estimate_reduced;
         let bandwidth_limit_in_current_window = recovery.bandwidth_limit_in_current_window;
         let delay_based_estimate = inputs.delay_based_estimate;
         let acknowledged_bitrate = inputs.acknowledged_bitrate;

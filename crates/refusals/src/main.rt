@@ -602,8 +602,8 @@ fn estimator() -> Estimator {
             },
             rate: Bitrate { bps: 1.4e6 },
         },
+        last_time_estimate_reduced: Timestamp::Exact(9_900_000_000),
         recovery: Recovery {
-            last_time_estimate_reduced: Timestamp::Exact(9_900_000_000),
             recovering_after_loss_timestamp: Timestamp::Exact(9_950_000_000),
             bandwidth_limit_in_current_window: Bitrate { bps: 1.9e6 },
         },
@@ -1007,9 +1007,12 @@ fn same_observation(a: Observation, b: Observation) -> bool {
 fn same_estimator(a: Estimator, b: Estimator) -> bool {
     let one = a.state;
     let other = b.state;
+    let reduced = a.last_time_estimate_reduced;
+    let other_reduced = b.last_time_estimate_reduced;
     one.number() == other.number()
         && same_parameters(a.current_estimate, b.current_estimate)
         && same_hold(a.last_hold_info, b.last_hold_info)
+        && reduced.eq(other_reduced)
         && same_recovery(a.recovery, b.recovery)
 }
 
@@ -1027,12 +1030,9 @@ fn same_hold(a: HoldInfo, b: HoldInfo) -> bool {
 }
 
 fn same_recovery(a: Recovery, b: Recovery) -> bool {
-    let reduced = a.last_time_estimate_reduced;
-    let other_reduced = b.last_time_estimate_reduced;
     let recovering = a.recovering_after_loss_timestamp;
     let other_recovering = b.recovering_after_loss_timestamp;
-    reduced.eq(other_reduced)
-        && recovering.eq(other_recovering)
+    recovering.eq(other_recovering)
         && same_rate(
             a.bandwidth_limit_in_current_window,
             b.bandwidth_limit_in_current_window,

@@ -183,11 +183,13 @@ fn read_observation() -> Observation {
 fn read_estimator(state: LossControllerState) -> Estimator {
     let current_estimate = read_parameters();
     let last_hold_info = read_hold();
+    let last_time_estimate_reduced = read_time();
     let recovery = read_recovery();
     Estimator {
         state,
         current_estimate,
         last_hold_info,
+        last_time_estimate_reduced,
         recovery,
     }
 }
@@ -204,11 +206,9 @@ fn read_hold() -> HoldInfo {
 }
 
 fn read_recovery() -> Recovery {
-    let last_time_estimate_reduced = read_time();
     let recovering_after_loss_timestamp = read_time();
     let bandwidth_limit_in_current_window = read_rate();
     Recovery {
-        last_time_estimate_reduced,
         recovering_after_loss_timestamp,
         bandwidth_limit_in_current_window,
     }
@@ -334,7 +334,7 @@ fn bounds(observations: Observations, estimator: Estimator, settings: Settings) 
     let in_alr = settings.in_alr;
     let link_capacity_estimate = settings.link_capacity_estimate;
     let last_send_time = observations.last_send_time_most_recent_observation;
-    let last_time_estimate_reduced = recovery.last_time_estimate_reduced;
+    let last_time_estimate_reduced = estimator.last_time_estimate_reduced;
     let bandwidth_limit_in_current_window = recovery.bandwidth_limit_in_current_window;
     let delay_based_estimate = settings.delay_based_estimate;
     let acknowledged_bitrate = settings.acknowledged_bitrate;
@@ -426,9 +426,9 @@ fn print_state(observations: Observations, estimator: Estimator, slot: usize) ->
     print_observations(observations, slot);
     print_parameters(estimator.current_estimate);
     print_hold(estimator.last_hold_info);
-    let recovery = estimator.recovery;
-    let reduced = recovery.last_time_estimate_reduced;
+    let reduced = estimator.last_time_estimate_reduced;
     print_time(reduced);
+    let recovery = estimator.recovery;
     let recovering = recovery.recovering_after_loss_timestamp;
     print_time(recovering);
     let limit = recovery.bandwidth_limit_in_current_window;

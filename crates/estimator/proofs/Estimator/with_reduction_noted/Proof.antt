@@ -10,7 +10,7 @@ lt-requires c κs = search needs
 returns : tie.Need-returns
 unfolding withReductionNoted
 returns c =
-    let a = c .before .before .before in
+    let a = c .before .before in
     rw (← a .before .lt .ensures, a .if1 .taken)
 
 returns-2 : tie.Need-returns-2

@@ -1,7 +1,7 @@
 -- `Recovery::bounded` meets its contract. Assumes nothing.
 use borrow.Author.Tests.{eq-eqb, ne-eqb}
 use borrow.Author.Needs.{needs}
-use Rattle.estimator.specs.Window.{bounded}
+use Rattle.estimator.specs.Recovery.{bounded}
 use Rattle.estimator.proofs.Recovery.bounded.Statement.{statement}
 use Rattle.estimator.proofs.Recovery.bounded.Tie as tie
 

@@ -1,6 +1,6 @@
 -- `Recovery::is_above_limit` meets its contract. Assumes nothing.
 use borrow.Author.Needs.{needs}
-use Rattle.estimator.specs.Window.{isAboveLimit}
+use Rattle.estimator.specs.Recovery.{isAboveLimit}
 use Rattle.estimator.proofs.Recovery.is_above_limit.Statement.{statement}
 use Rattle.estimator.proofs.Recovery.is_above_limit.Tie as tie
 

@@ -1,6 +1,6 @@
 -- `Recovery::is_over` meets its contract. Assumes nothing.
 use borrow.Author.Needs.{needs}
-use Rattle.estimator.specs.Window.{isOver}
+use Rattle.estimator.specs.Recovery.{isOver}
 use Rattle.estimator.proofs.Recovery.is_over.Statement.{statement}
 use Rattle.estimator.proofs.Recovery.is_over.Tie as tie
 

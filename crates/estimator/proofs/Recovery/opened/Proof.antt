@@ -1,6 +1,6 @@
 -- `Recovery::opened` meets its contract. Assumes nothing.
 use borrow.Author.Needs.{needs}
-use Rattle.estimator.specs.Window.{opened}
+use Rattle.estimator.specs.Recovery.{opened}
 use Rattle.estimator.proofs.Recovery.opened.Statement.{statement}
 use Rattle.estimator.proofs.Recovery.opened.Tie as tie
 

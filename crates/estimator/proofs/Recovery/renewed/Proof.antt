@@ -1,7 +1,7 @@
 -- `Recovery::renewed` meets its contract. Assumes nothing.
 use borrow.Author.Tests.{eq-eqb, ne-eqb}
 use borrow.Author.Needs.{needs}
-use Rattle.estimator.specs.Window.{renewed}
+use Rattle.estimator.specs.Recovery.{renewed}
 use Rattle.estimator.proofs.Recovery.renewed.Statement.{statement}
 use Rattle.estimator.proofs.Recovery.renewed.Tie as tie
 

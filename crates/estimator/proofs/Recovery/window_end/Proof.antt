@@ -1,6 +1,6 @@
 -- `Recovery::window_end` meets its contract. Assumes nothing.
 use borrow.Author.Needs.{needs}
-use Rattle.estimator.specs.Window.{windowEnd}
+use Rattle.estimator.specs.Recovery.{windowEnd}
 use Rattle.estimator.proofs.Recovery.window_end.Statement.{statement}
 use Rattle.estimator.proofs.Recovery.window_end.Tie as tie
 

@@ -21,7 +21,6 @@ use Rattle.estimator.specs.declared.RecoveryAnswer.{RecoveryAnswer}
 abbrev pub initial : Recovery
 initial =
     record {
-      «last_time_estimate_reduced» = DistantPast;
       «recovering_after_loss_timestamp» = DistantPast;
       «bandwidth_limit_in_current_window» = Rate.nearest 18446744073709551615;
     }
@@ -56,10 +55,9 @@ unfoldable pub isOver : Recovery → Timestamp → Timestamp → Bool
 isOver w end t = not (Time.isExact (w .«recovering_after_loss_timestamp»)) || isLt (Time.order end t)
 
 -- a window from this time on, with the limit 1.3 times the rate, at least 5 kbps
-unfoldable pub opened : Recovery → Bitrate → Timestamp → Recovery
-opened w best t =
+unfoldable pub opened : Bitrate → Timestamp → Recovery
+opened best t =
     record {
-      «last_time_estimate_reduced» = w .«last_time_estimate_reduced»;
       «recovering_after_loss_timestamp» = t;
       «bandwidth_limit_in_current_window» =
           Rate.larger «congestion_controller_min_bitrate» (Rate.times best «conf_max_increase_factor»);
@@ -71,6 +69,6 @@ renewed w state best t =
     let end = windowEnd w in
     cond (isLimitedDueToLoss state)
     (cond (eqb (end .refusal) 0)
-    (answered (cond (isOver w (end .time) t) (opened w best t) w))
+    (answered (cond (isOver w (end .time) t) (opened best t) w))
     (record { recovery = w; refusal = end .refusal }))
     (answered w)
