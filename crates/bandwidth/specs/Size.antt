@@ -1,5 +1,5 @@
 -- Sizes: what `DataSize` of bandwidth.rs answers. Definitions only.
-use Prim.Native.Nat.{ℕ, _^_}
+use Prim.Native.Nat.{ℕ}
 use mathlib.Core.Bool.{Bool, cond, _&&_}
 use mathlib.Core.List.{List, foldl}
 use lib.Dec.{eqb}

@@ -1,5 +1,4 @@
 -- Document 01's starred value for rates: 125,000 bytes in 500 ms are 2,000,000 bit/s. Assumes nothing.
-use Prim.Native.Nat.{ℕ}
 use mathlib.Core.Path.{refl}
 use lib.IntN.{pos}
 use lib.Ieee.{add, div, eq, inFloat, mul, ofBits, ofInt}

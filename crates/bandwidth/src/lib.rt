@@ -5,7 +5,7 @@ ghost use lib.IntN.{pos, _*ℤ_};
 ghost use lib.Signed.{leZ, ltZ};
 ghost use lib.Ieee.{eq, inf, le, lt};
 ghost use lib.Ieee.Scale.{finite};
-ghost use mathlib.Core.Bool.{true, false, not};
+ghost use mathlib.Core.Bool.{true, false};
 ghost use Rattle.float.specs.Order.{partialOrder};
 ghost use Rattle.integer.specs.Fitted.{fitted, ordered};
 ghost use Rattle.bandwidth.specs.Rate as Rate;

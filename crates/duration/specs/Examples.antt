@@ -1,11 +1,12 @@
--- Worked examples of `fromSeconds`, by bit patterns, which antt computes; the answers are those of Rust's Duration::try_from_secs_f64. They test the definition; no proof cites them.
-use Prim.Native.Nat.{ℕ}
+-- Worked examples of the definitions beside this file, by bit patterns, which antt computes; those of `fromSeconds` answer as Rust's
+-- Duration::try_from_secs_f64 does. They test the definitions; no proof cites them.
+use Prim.Native.Nat.{ℕ, _-_, _^_}
 use mathlib.Core.Path.{_≡_, refl}
 use mathlib.Core.List.{List, [], _∷_, map}
-use lib.Ieee.{lt, mul, ofBits}
+use lib.Ieee.{add, div, lt, mul, ofBits, ofInt}
 use Rattle.float.specs.Rounded.{_⊗_, bits}
-use Rattle.duration.specs.Nanos.{answered as ns, refused, fitted}
-use Rattle.duration.specs.Seconds.{nearestNanos, fromSeconds}
+use Rattle.duration.specs.Nanos.{answered as ns, refused, fitted, minus, over}
+use Rattle.duration.specs.Seconds.{seconds, nearestNanos, fromSeconds}
 use Rattle.duration.specs.declared.DurationAnswer.{DurationAnswer}
 
 each : List ℕ → List DurationAnswer
@@ -38,3 +39,18 @@ sign-examples :
     ns 0 ∷ refused ∷ refused ∷ refused ∷ refused ∷ []
 unfolding each fromSeconds nearestNanos fitted lt ofBits
 sign-examples = refl
+
+-- as_secs_f64 of 0 ns, 3 ns, the last below a second, a second and 1 ns, 2^64 - 1 ns
+seconds-examples :
+    map (λ n. seconds (record { nanos = n })) (0 ∷ 3 ∷ 999999999 ∷ 1000000001 ∷ (2 ^ 64 - 1) ∷ []) ≡
+    map bits (0 ∷ 0x3E29C511DC3A41DF ∷ 0x3FEFFFFFFF768FA1 ∷ 0x3FF000000044B830 ∷ 0x42112E0BE826D695 ∷ [])
+unfolding seconds add div ofBits ofInt
+seconds-examples = refl
+
+-- in ns: 2^64 - 1 and one more; 5 - 5 and 4 - 5; 7 / 2 and 7 / 0
+nanos-examples :
+    map fitted ((2 ^ 64 - 1) ∷ (2 ^ 64) ∷ []) ≡ ns (2 ^ 64 - 1) ∷ refused ∷ []
+    × map (λ n. minus n 5) (5 ∷ 4 ∷ []) ≡ ns 0 ∷ refused ∷ []
+    × map (over 7) (2 ∷ 0 ∷ []) ≡ ns 3 ∷ refused ∷ []
+unfolding fitted minus over
+nanos-examples = (refl, refl, refl)

@@ -1,5 +1,4 @@
 -- Document 01's starred values of the logarithm: ln 1 = 0; ln 2 = 3FE62E42FEFA39EF. Assumes nothing.
-use Prim.Native.Nat.{ℕ}
 use mathlib.Core.Path.{refl}
 use lib.Ieee.{add, div, le, lt, mul, ofBits, ofInt, sub, toBits}
 use Rattle.float.specs.Rounded.{bits, one}

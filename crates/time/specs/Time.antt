@@ -1,5 +1,5 @@
 -- Times: what `Timestamp` of time.rs answers. Definitions only.
-use Prim.Native.Nat.{ℕ, _+_}
+use Prim.Native.Nat.{_+_}
 use mathlib.Core.Bool.{Bool, true, false}
 use lib.IntN.{pos}
 use Rattle.integer.specs.Fitted.{ordered}
