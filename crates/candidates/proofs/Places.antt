@@ -4,7 +4,8 @@ use mathlib.Core.Bool.{Bool, true, false}
 use mathlib.Core.List.{[], _∷_, _++_, map}
 use Rattle.bandwidth.specs.declared.Bitrate.{Bitrate}
 use Rattle.likelihood.specs.declared.ChannelParameters.{ChannelParameters}
-use Rattle.candidates.specs.Candidate.{only, placed, pushed}
+use Rattle.candidates.specs.Candidate.{only, placed}
+use Rattle.candidates.specs.Pushed.{pushed}
 
 -- f makes a candidate of a rate; the fourth and the sixth are wanted if a, the fifth if k
 pub pushed-are-placed :

@@ -1,10 +1,10 @@
 -- The bound on a candidate's rate. Definitions only.
 use mathlib.Core.Bool.{Bool, true, false, cond, _&&_}
-use lib.Ieee.{Float, inf}
+use lib.Ieee.{Float}
 use lib.Ieee.Scale.{finite}
 use Rattle.float.specs.Rounded.{_⊗_, _⊘_}
 use Rattle.float.specs.Rust.{minimum}
-use Rattle.bandwidth.specs.Rate.{rate, smaller, plus, times}
+use Rattle.bandwidth.specs.Rate.{smaller, plus, times}
 use Rattle.bandwidth.specs.declared.Bitrate.{Bitrate}
 use Rattle.bandwidth.specs.declared.OptionBitrate.{OptionBitrate}
 use Rattle.bandwidth.specs.declared.OptionBitrate.the-variants.{Some, None}
@@ -12,18 +12,14 @@ use Rattle.duration.specs.Seconds.{seconds}
 use Rattle.time.specs.Delta.{inSeconds, larger, zero}
 use Rattle.time.specs.Time.{since, isExact}
 use Rattle.time.specs.declared.TimeDelta.{TimeDelta}
-use Rattle.config.specs.Config.{«rampup_acceleration_max_factor», «rampup_acceleration_maxout_time»}
+use Rattle.config.specs.Config.{«max_bitrate», «rampup_acceleration_max_factor», «rampup_acceleration_maxout_time»}
 use Rattle.candidates.specs.declared.Bounds.{Bounds}
 
 -- an upper bound, and a limit where it is valid
 unfoldable pub atMost : Bitrate → Bitrate → Bitrate
 atMost limit bound = cond (finite (limit .bps)) (smaller bound limit) bound
 
--- the maximum rate, which is infinite ("the maximum stays infinite")
-abbrev pub «max_bitrate» : Bitrate
-«max_bitrate» = rate (inf false)
-
--- the link capacity counts in ALR alone
+-- the maximum rate ("the maximum stays infinite"); the link capacity counts in ALR alone
 unfoldable pub capacity : Bool → OptionBitrate → Bitrate
 capacity true (Some c) = atMost c «max_bitrate»
 capacity true None = «max_bitrate»

@@ -1,9 +1,7 @@
 -- The candidates, at most six ("One report, in order", 3). Definitions only.
-use Prim.Native.Nat.{_+_}
 use mathlib.Core.Bool.{Bool, cond, _&&_}
 use mathlib.Core.List.{List, [], _∷_, _++_, map}
-use lib.Dec.{ltb}
-use lib.ListN.{length, replicate, set, take}
+use lib.ListN.{length, replicate, take}
 use lib.Ieee.{Float, lt}
 use lib.Ieee.Scale.{finite}
 use Rattle.bandwidth.specs.Rate.{rate, smaller, larger, times}
@@ -66,8 +64,3 @@ candidates current b =
     (map
     (candidate current (upperBound b))
     (bandwidths (current .«loss_limited_bandwidth») (b .«delay_based_estimate») (b .«acknowledged_bitrate»)))
-
--- one more at the end, if it is wanted and there is a place for it
-unfoldable pub pushed : Candidates → Bool → ChannelParameters → Candidates
-pushed c wanted p =
-    cond (wanted && ltb (c .count) 6) (record { places = set (c .places) (c .count) p; count = c .count + 1 }) c

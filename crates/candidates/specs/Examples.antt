@@ -77,7 +77,8 @@ bounds-without-acknowledged = (refl, refl, refl)
 bounds-with-acknowledged :
     bound false two one (Exact 10000000007) (Exact 20000000000) ≡ two
     × bound false two one (Exact 10000000007) DistantPast ≡ two
-unfolding bound upperBound inWindow acceleration atMost plus smaller times seconds Delta.difference Delta.inSeconds Delta.larger Delta.order Time.since minimum add div isNan lt mul ofBits ofInt
+unfolding bound upperBound inWindow acceleration atMost plus smaller times seconds Delta.difference Delta.inSeconds Delta.larger Delta.order
+    Time.since minimum add div isNan lt mul ofBits ofInt
 bounds-with-acknowledged = (refl, refl)
 
 -- 0.300000007 s; 0.015 s, where 60.0 × 0.015 / 60.0 is the float below 0.015; 60 s; 61 s, which count as 60
@@ -141,7 +142,9 @@ first-examples = refl
 
 -- a refusal leaves the current parameters, also after a candidate that was better
 refused-example :
-    answered (parameters three) (judged (judged (start (parameters three)) (parameters one) (record { value = bits 0; refusal = 0 })) (parameters two) (record { value = bits 0; refusal = 6 })) ≡
+    answered (parameters three)
+    (judged (judged (start (parameters three)) (parameters one) (record { value = bits 0; refusal = 0 })) (parameters two)
+    (record { value = bits 0; refusal = 6 })) ≡
     record { best = parameters three; refusal = 6 }
 unfolding answered judged lt ofBits
 refused-example = refl

@@ -1,4 +1,5 @@
 pub mod Bound
 pub mod Candidate
 pub mod Choice
+pub mod Pushed
 mod Examples

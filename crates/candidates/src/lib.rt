@@ -5,6 +5,7 @@ ghost use Prim.Native.Nat.{_≤_};
 ghost use Rattle.candidates.specs.Bound as Bound;
 ghost use Rattle.candidates.specs.Candidate as Candidate;
 ghost use Rattle.candidates.specs.Choice as Choice;
+ghost use Rattle.candidates.specs.Pushed as Pushed;
 use bandwidth::Bitrate;
 use bandwidth::OptionBitrate;
 use float::FloatAnswer;
@@ -185,7 +186,7 @@ fn candidate(
 impl Candidates {
     // One more, if it is wanted and there is a place for it.
     fn push_if(self, wanted: bool, candidate: ChannelParameters) -> Candidates
-        ensures { λ r. ⌜ r ≡ Candidate.pushed self wanted candidate ⌝ }
+        ensures { λ r. ⌜ r ≡ Pushed.pushed self wanted candidate ⌝ }
     {
         let mut pushed = self;
         let count = self.count;

@@ -2,7 +2,7 @@
 use Prim.Native.Nat.{ℕ}
 use mathlib.Core.Path.{_≡_, refl}
 use mathlib.Core.Bool.{false}
-use mathlib.Core.List.{List, [], _∷_, map}
+use mathlib.Core.List.{[], _∷_, map}
 use lib.Ieee.{Float, binary64, ofBits, round}
 use Rattle.bandwidth.specs.declared.Bitrate.{Bitrate}
 use Rattle.config.specs.Config.{«instant_upper_bound_loss_offset», «instant_upper_bound_bandwidth_balance», «high_loss_rate_threshold», «slope_of_bwe_high_loss_function», «bandwidth_cap_at_high_loss_rate», «min_bitrate», «initial_inherent_loss_estimate», «inherent_loss_lower_bound», «inherent_loss_upper_bound_offset», «inherent_loss_upper_bound_bandwidth_balance», «newton_step_size», «higher_bandwidth_bias_factor», «higher_log_bandwidth_bias_factor», «threshold_of_high_bandwidth_preference», «bandwidth_preference_smoothing_factor», «candidate_factor_up», «candidate_factor_same», «candidate_factor_down», «bandwidth_backoff_lower_bound_factor», «congestion_controller_min_bitrate», «conf_max_increase_factor», «bandwidth_rampup_upper_bound_factor», «bandwidth_rampup_upper_bound_factor_in_hold», «bandwidth_rampup_hold_threshold», «hold_duration_factor»}

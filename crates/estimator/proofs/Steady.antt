@@ -13,12 +13,12 @@ use lib.Ieee.Scale.{finite}
 use Rattle.float.proofs.Extremes.{minimum-by}
 use Rattle.float.proofs.NotNegative.{Holds, NotNegative, inf-not-negative, maximum-not-negative, add-not-negative}
 use Rattle.float.proofs.Refusal.{either}
+use Rattle.duration.specs.Nanos.{fitted}
 use Rattle.duration.specs.declared.Duration.{Duration}
 use Rattle.bandwidth.specs.Rate as Rate
 use Rattle.bandwidth.specs.declared.Bitrate.{Bitrate}
 use Rattle.bandwidth.specs.declared.RateAnswer.{RateAnswer}
 use Rattle.bandwidth.proofs.NotNegativeRate.{NotNegativeRate, nearest-not-negative}
-use Rattle.time.specs.Nanos.{fitted}
 use Rattle.time.specs.Time.{plus}
 use Rattle.time.specs.declared.TimeDelta.the-variants.{Positive}
 use Rattle.time.specs.declared.Timestamp.{Timestamp}
@@ -167,7 +167,7 @@ module _ (e : Estimator) (s : Steady e) (k : Rates e) (c : NotNegativeRate (Incr
       hold-taken DelayBased = record { refusal = refl; span = lit≤ tt; rate = inf-not-negative }
 
       new-taken : Taken (Update.withNewState e best r)
-      unfolding Update.withNewState Update.firstRefusal
+      unfolding Update.withNewState
       new-taken =
           let state = Update.newState e rate (r .«delay_based_estimate») in
           let hold = hold-taken state in
@@ -182,7 +182,8 @@ module _ (e : Estimator) (s : Steady e) (k : Rates e) (c : NotNegativeRate (Incr
       unfolding Update.decided
       decided-taken = either Taken (Update.isInHold e rate r) _ _ held-taken new-taken
 
-  updated-taken : (best : ChannelParameters) (r : Report) → NotNegativeRate (best .«loss_limited_bandwidth») → Timely (r .«last_send_time») → Taken (Update.updated e best r)
+  updated-taken : (best : ChannelParameters) (r : Report) → NotNegativeRate (best .«loss_limited_bandwidth») → Timely (r .«last_send_time»)
+      → Taken (Update.updated e best r)
   unfolding Update.updated
   updated-taken best r n h =
       let limited = increase-taken best n r in

@@ -1,15 +1,16 @@
 -- What `update_bandwidth_estimate` does once the best candidate is chosen. Definitions only.
 use Prim.Native.Nat.{ℕ}
-use mathlib.Core.Bool.{Bool, true, false, cond, _&&_}
+use mathlib.Core.Bool.{Bool, true, cond, _&&_}
 use lib.Dec.{eqb}
 use lib.Ieee.{inf, lt}
+use Rattle.float.specs.Answer.{firstRefusal}
 use Rattle.bandwidth.specs.Rate as Rate
 use Rattle.bandwidth.specs.declared.Bitrate.{Bitrate}
 use Rattle.time.specs.Order.{isGt}
 use Rattle.time.specs.Time as Time
 use Rattle.time.specs.declared.Timestamp.{Timestamp}
 use Rattle.time.specs.declared.Timestamp.the-variants.{DistantPast}
-use Rattle.config.specs.Config.{«initial_inherent_loss_estimate»}
+use Rattle.config.specs.Config.{«initial_inherent_loss_estimate», «max_bitrate»}
 use Rattle.likelihood.specs.declared.ChannelParameters.{ChannelParameters}
 use Rattle.estimator.specs.State.{isDecreasing}
 use Rattle.estimator.specs.Hold as Hold
@@ -39,9 +40,6 @@ answered e = record { estimator = e; refusal = 0 }
 -- beside a refusal the estimator is as it was
 abbrev pub unchanged : Estimator → ℕ → EstimatorAnswer
 unchanged e n = record { estimator = e; refusal = n }
-
-unfoldable pub firstRefusal : ℕ → ℕ → ℕ
-firstRefusal a b = cond (eqb a 0) b a
 
 -- a best rate below the current one is a reduction, at the last send time (last_time_estimate_reduced)
 unfoldable pub withReductionNoted : Estimator → ChannelParameters → Timestamp → Estimator
@@ -81,9 +79,9 @@ held e best =
 
 -- ---- the new state
 
--- below the delay estimate and below the maximum, which is infinite
+-- below the delay estimate and below the maximum
 unfoldable pub isLimiting : Bitrate → Bitrate → Bool
-isLimiting rate delay = lt (rate .bps) (delay .bps) && lt (rate .bps) (inf false)
+isLimiting rate delay = lt (rate .bps) (delay .bps) && lt (rate .bps) («max_bitrate» .bps)
 
 -- Increasing, Decreasing or, where loss does not limit the estimate, DelayBased ("State transitions")
 unfoldable pub newState : Estimator → Bitrate → Bitrate → LossControllerState

@@ -2,6 +2,7 @@
 // chosen: increase limits, hold and state. The settings that the Rust asks here are fixed on; the
 // maximum rate is infinite.
 ghost use mathlib.Core.Path.{_≡_};
+ghost use Rattle.float.specs.Answer as Answer;
 ghost use Rattle.estimator.specs.State as State;
 ghost use Rattle.estimator.specs.Hold as Hold;
 ghost use Rattle.estimator.specs.Recovery as Recovering;
@@ -588,7 +589,7 @@ fn is_limiting(loss_limited_bandwidth: Bitrate, delay_based_estimate: Bitrate) -
 }
 
 fn first_refusal(first: u8, second: u8) -> u8
-    ensures { λ r. ⌜ r ≡ Update.firstRefusal first second ⌝ }
+    ensures { λ r. ⌜ r ≡ Answer.firstRefusal first second ⌝ }
 {
     if first != 0 {
         return first;

@@ -27,7 +27,8 @@ module _ {A : Type 0} {P : A → Type 0} where
   each-set (suc n) y q (more x p) = more x (each-set n y q p)
 
   -- what each step keeps holds of the fold
-  pub each-fold : {B : Type 0} (Q : B → Type 0) (f : B → A → B) → ((b : B) (x : A) → Q b → P x → Q (f b x)) → (b : B) {l : List A} → Q b → Each P l → Q (foldl f b l)
+  pub each-fold : {B : Type 0} (Q : B → Type 0) (f : B → A → B) → ((b : B) (x : A) → Q b → P x → Q (f b x)) → (b : B) {l : List A} → Q b → Each P l
+      → Q (foldl f b l)
   each-fold Q f step b q none = q
   each-fold Q f step b q (more {x} h p) = each-fold Q f step (f b x) (step b x q h) p
 

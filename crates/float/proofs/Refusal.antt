@@ -1,8 +1,8 @@
 -- An answer is chosen by a test, with refusal 0 where the test holds and another number where not: the refusal tells the test.
 -- Assumes nothing.
 use Prim.Native.Nat.{ℕ, _<_}
-use mathlib.Core.Path.{_≡_, refl}
-use mathlib.Core.Bool.{Bool, true, false, cond}
+use mathlib.Core.Path.{_≡_, refl, sym}
+use mathlib.Core.Bool.{Bool, true, false, cond, true≢false}
 use native.Mathlib.Omega.{arith}
 use borrow.Author.Tests.{eqb-true, eqb-false}
 use lib.Dec.{eqb}
@@ -16,15 +16,21 @@ module _ {A : Type 0} (refusal : A → ℕ) (taken refused : A) where
   declined true t h = absurd (h t)
   declined false t h = refl
 
+-- two choices by tests that agree: what relates the first two and the second two relates the chosen ones, and either may need how the test came out
+pub agreed : {A B : Type 0} (P : A → B → Type 0) (a b : Bool) → a ≡ b → {x y : A} {u v : B}
+    → (a ≡ true → P x u) → (a ≡ false → P y v) → P (cond a x y) (cond b u v)
+agreed P true true e f g = f refl
+agreed P true false e f g = absurd (true≢false e)
+agreed P false true e f g = absurd (true≢false (sym e))
+agreed P false false e f g = g refl
+
+-- one choice
+pub tested : {A : Type 0} (P : A → Type 0) (b : Bool) {x y : A} → (b ≡ true → P x) → (b ≡ false → P y) → P (cond b x y)
+tested P b f g = agreed (λ x (u : Bool). P x) b b refl {u = true} {v = true} f g
+
 -- what holds of both holds of the one that a test chooses
 pub either : {A : Type 0} (P : A → Type 0) (b : Bool) (x y : A) → P x → P y → P (cond b x y)
-either P true x y p q = p
-either P false x y p q = q
-
--- the same, where each may need how the test came out
-pub tested : {A : Type 0} (P : A → Type 0) (b : Bool) {x y : A} → (b ≡ true → P x) → (b ≡ false → P y) → P (cond b x y)
-tested P true f g = f refl
-tested P false f g = g refl
+either P b x y p q = tested P b (λ e. p) (λ e. q)
 
 -- and where it is the test for a refusal
 pub checked : {A : Type 0} (P : A → Type 0) (refusal : ℕ) {x y : A} → (refusal ≡ 0 → P x) → ((refusal ≡ 0 → ⊥) → P y) → P (cond (eqb refusal 0) x y)

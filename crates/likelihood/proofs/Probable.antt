@@ -13,7 +13,7 @@ use lib.Ieee.Fits.{and-l, and-r, down-pos}
 use lib.Ieee.Order.{round-mono, le-of-values}
 use lib.Ieee.Positive.{num, den, den-pos, first-pos, positive, between, le-trans-positive, sub-anti, value→cross, through}
 use lib.Ieee.Scale.{finite}
-use Rattle.float.specs.Rounded.{bits, _⊖_, _⊘_}
+use Rattle.float.specs.Rounded.{bits, one, _⊖_, _⊘_}
 use Rattle.float.specs.Answer.{clamped}
 use Rattle.float.proofs.Exact.{fits-says, held-exact}
 use Rattle.float.proofs.NotNan.{NotNan, add-not-nan, mul-not-nan}
@@ -21,7 +21,7 @@ use Rattle.float.proofs.NotNegative.{upward, round-upward, above-upward}
 use Rattle.float.proofs.Refusal.{tested}
 use Rattle.float.proofs.Values.{yes}
 use Rattle.bandwidth.specs.declared.Bitrate.{Bitrate}
-use Rattle.logarithm.specs.Ln.{one, logarithm}
+use Rattle.logarithm.specs.Ln.{logarithm}
 use Rattle.logarithm.proofs.Logarithms.{logarithm-between}
 use Rattle.rounding.specs.Plain.{plain}
 use Rattle.rounding.proofs.Operations.{sub-is, div-is, lt-is}
@@ -60,8 +60,10 @@ unfolding isNan lt ofBits sub add
 loss-between nan n l h = absurd (true≢false n)
 loss-between (inf true) n l h = absurd (true≢false l)
 loss-between (inf false) n l h = absurd (true≢false h)
-loss-between (fin true m e) n l h = record { itself = tt; rest = part-finite (1 * down e + m * up e * 1) (1 * down e) (mul-pos (lit< tt) (down-pos e)) (omega (arith, ltb-false)) }
-loss-between (fin false m e) n l h = record { itself = tt; rest = rw h (part-finite (1 * down e - m * up e * 1) (1 * down e) (mul-pos (lit< tt) (down-pos e)) (omega arith)) }
+loss-between (fin true m e) n l h =
+    record { itself = tt; rest = part-finite (1 * down e + m * up e * 1) (1 * down e) (mul-pos (lit< tt) (down-pos e)) (omega (arith, ltb-false)) }
+loss-between (fin false m e) n l h =
+    record { itself = tt; rest = rw h (part-finite (1 * down e - m * up e * 1) (1 * down e) (mul-pos (lit< tt) (down-pos e)) (omega arith)) }
 
 inherent-finite : (x : Float) → NotNan x → FiniteLoss (clamped x (bits 0) one .value)
 unfolding clamped le lt ofBits sub
@@ -146,7 +148,8 @@ between-probable p l h =
     let up-to : T (le p one) = le-trans-positive p most one P tt tt h tt in
     record {
       lost = logarithm-between least p most tt tt tt tt l h;
-      received = logarithm-between (one ⊖ most) (one ⊖ p) most tt tt tt tt (sub-anti binary64 one p most tt P tt h tt) (sub-anti binary64 one least p tt tt P l up-to);
+      received =
+          logarithm-between (one ⊖ most) (one ⊖ p) most tt tt tt tt (sub-anti binary64 one p most tt P tt h tt) (sub-anti binary64 one least p tt tt P l up-to);
     }
 
 under-le : (x y : Float) → Under x y → T (le x y)

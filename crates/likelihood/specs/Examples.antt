@@ -5,10 +5,9 @@ use mathlib.Core.Path.{_≡_, refl}
 use mathlib.Core.Bool.{Bool, true, false}
 use mathlib.Core.List.{List, [], _∷_, map}
 use lib.Ieee.{Float, binary64, add, div, eq, isNan, le, lt, mul, ofBits, ofInt, sub, toBits}
-use Rattle.float.specs.Rounded.{bits, _⊕_, _⊗_, _⊘_}
+use Rattle.float.specs.Rounded.{bits}
 use Rattle.float.specs.Rust.{magnitude, maximum, minimum, signBit}
 use Rattle.float.specs.Answer.{answered, clamped}
-use Rattle.float.specs.declared.FloatAnswer.{FloatAnswer}
 use Rattle.bandwidth.specs.declared.Bitrate.{Bitrate}
 use Rattle.bandwidth.specs.Rate.{minus, rate}
 use Rattle.logarithm.specs.Ln.{logarithm}
@@ -58,7 +57,8 @@ upper-bounds = refl
 
 -- 0.01, 0, 0.5 and a NaN at 1,000,000 bit/s; 0.01 at -1,000,000 bit/s, where the upper bound is the lower of the two, and stays
 feasible-losses :
-    each (λ x. feasible (record { «inherent_loss» = x; «loss_limited_bandwidth» = bps million })) (hundredth ∷ 0 ∷ 0x3FE0000000000000 ∷ 0x7FF8000000000000 ∷ []) ≡
+    each (λ x. feasible (record { «inherent_loss» = x; «loss_limited_bandwidth» = bps million }))
+    (hundredth ∷ 0 ∷ 0x3FE0000000000000 ∷ 0x7FF8000000000000 ∷ []) ≡
     hundredth ∷ 0x3F50624DD2F1A9FC ∷ 0x3FC3333333333334 ∷ 0x3F50624DD2F1A9FC ∷ []
     × feasible (candidate hundredth minus-million) ≡ bits 0xBFA999999999999A
 unfolding each feasible upperBound add div eq isNan lt minimum maximum ofBits toBits
@@ -68,7 +68,8 @@ feasible-losses = (refl, refl)
 
 -- 0.01, 0, 1, -1, 3 and a NaN, sent at twice the limit; 0.01 and 0, sent at the limit; 0.01, sent at an infinite rate, and limited by a NaN
 probabilities :
-    each (λ x. probability x (bps million) (bps two-million)) (hundredth ∷ 0 ∷ 0x3FF0000000000000 ∷ 0xBFF0000000000000 ∷ 0x4008000000000000 ∷ 0x7FF8000000000000 ∷ []) ≡
+    each (λ x. probability x (bps million) (bps two-million))
+    (hundredth ∷ 0 ∷ 0x3FF0000000000000 ∷ 0xBFF0000000000000 ∷ 0x4008000000000000 ∷ 0x7FF8000000000000 ∷ []) ≡
     0x3FE028F5C28F5C29 ∷ 0x3FE0000000000000 ∷ 0x3FEFFFFDE7210BE9 ∷ 0x3FE0000000000000 ∷ 0x3FEFFFFDE7210BE9 ∷ 0x7FF8000000000000 ∷ []
     × each (λ x. probability x (bps million) (bps million)) (hundredth ∷ 0 ∷ []) ≡ hundredth ∷ 0x3EB0C6F7A0B5ED8D ∷ []
     × each (λ x. probability (bits hundredth) (bps million) (rate x)) (0x7FF0000000000000 ∷ []) ≡ hundredth ∷ []
@@ -110,7 +111,8 @@ newton-examples :
     newton rows (candidate hundredth two-million) ≡ candidate 0x3F9000EE769902E8 two-million
     × newton rows (candidate hundredth million) ≡ candidate 0x3F50624DD2F1A9FC million
     × newton rows (candidate 0x7FF8000000000000 million) ≡ candidate 0x3F50624DD2F1A9FC million
-unfolding rows newton feasible upperBound derivatives addDerivatives safe signBit probability congested clamped minus minimum maximum power add div eq isNan le lt mul ofBits sub toBits
+unfolding rows newton feasible upperBound derivatives addDerivatives safe signBit probability congested clamped minus minimum maximum power add
+    div eq isNan le lt mul ofBits sub toBits
 newton-examples = (refl, refl, refl)
 
 -- ---- bias
@@ -127,7 +129,8 @@ adjusted-examples = (refl, refl)
 -- at the ratio 0.1: 1,000,000 and -0.5 bit/s, infinity, a NaN; refused at -1 bit/s
 bias-examples :
     map (λ b. bias (bps b) (bits tenth)) (million ∷ 0xBFE0000000000000 ∷ 0x7FF0000000000000 ∷ 0x7FF8000000000000 ∷ 0xBFF0000000000000 ∷ []) ≡
-    answered (bits 0x40C398EBEC1899CE) ∷ answered (bits 0xBFE662A8FF5D5146) ∷ answered (bits 0) ∷ answered (bits 0) ∷ record { value = bits 0; refusal = 6 } ∷ []
+    answered (bits 0x40C398EBEC1899CE) ∷ answered (bits 0xBFE662A8FF5D5146) ∷ answered (bits 0) ∷ answered (bits 0)
+    ∷ record { value = bits 0; refusal = 6 } ∷ []
 unfolding bias adjusted logarithm magnitude add div le lt mul ofBits ofInt sub toBits
 bias-examples = refl
 

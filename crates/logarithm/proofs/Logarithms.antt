@@ -2,7 +2,8 @@
 use Prim.Native.Nat.{ℕ, suc, _+_, _-_, _*_, _^_, _≤_, _<_}
 use mathlib.Core.Path.{_≡_, refl, sym, ap, _∙_}
 use mathlib.Core.Bool.{Bool, true, false, not}
-use native.Mathlib.Nat.{le-trans, le-of-lt, lt-of-le-of-lt, le-of-eq, mul-assoc, mul-one, one-mul, mul-le-mul, mul-le-mul-right, lt-of-mul-lt-mul-right, sub-add-cancel}
+use native.Mathlib.Nat.{le-trans, le-of-lt, lt-of-le-of-lt, le-of-eq, mul-assoc, mul-one, one-mul, mul-le-mul, mul-le-mul-right}
+use native.Mathlib.Nat.{lt-of-mul-lt-mul-right, sub-add-cancel}
 use native.Mathlib.Omega.{arith}
 use lib.Dec.{T, leb, leb→le, nleb→lt, lit≤, lit<}
 use lib.IntN.{ℤ, pos, negsuc}
@@ -13,10 +14,10 @@ use lib.Ieee.Bits.{is-true}
 use lib.Ieee.Order.{round-mono}
 use lib.Ieee.Positive.{positive, between, le-trans-positive}
 use lib.Ieee.Scale.{finite}
-use Rattle.float.specs.Rounded.{bits, _⊕_}
+use Rattle.float.specs.Rounded.{bits, one, _⊕_}
 use Rattle.float.proofs.Exact.{fits-says}
 use Rattle.float.proofs.NotNegative.{NotNegative}
-use Rattle.logarithm.specs.Ln.{one, logarithm}
+use Rattle.logarithm.specs.Ln.{logarithm}
 
 -- ---- between two normal floats
 
@@ -29,7 +30,8 @@ abbrev pub largest : Float
 largest = bits 0x7FEFFFFFFFFFFFFF
 
 -- a float from lo to hi, both of them normal, has a logarithm
-pub logarithm-between : (lo x hi : Float) → T (positive lo) → T (positive hi) → T (le smallest lo) → T (le hi largest) → T (le lo x) → T (le x hi) → logarithm x .refusal ≡ 0
+pub logarithm-between : (lo x hi : Float) → T (positive lo) → T (positive hi) → T (le smallest lo) → T (le hi largest) → T (le lo x) → T (le x hi)
+    → logarithm x .refusal ≡ 0
 unfolding logarithm ofBits
 logarithm-between lo x hi p q normal finite l h =
     let z : T (positive x) = between lo x hi p q l h in
@@ -50,7 +52,8 @@ whole-most m k a b = go (leb k 971) (leb→le k 971) (nleb→lt k 971)
     go true h l = mul-le-mul (below m a) (pow-mono (h tt))
     go false h l =
         let q = m * 2 ^ (k - 971) in
-        let e : m * 2 ^ k ≡ q * 2 ^ 971 = ap (λ (i : ℕ). m * 2 ^ i) (sym (sub-add-cancel (le-of-lt (l tt)))) ∙ ap (λ (p : ℕ). m * p) (pow-add 2 (k - 971) 971) ∙ sym (mul-assoc m (2 ^ (k - 971)) (2 ^ 971)) in
+        let e : m * 2 ^ k ≡ q * 2 ^ 971 = ap (λ (i : ℕ). m * 2 ^ i) (sym (sub-add-cancel (le-of-lt (l tt))))
+        ∙ ap (λ (p : ℕ). m * p) (pow-add 2 (k - 971) 971) ∙ sym (mul-assoc m (2 ^ (k - 971)) (2 ^ 971)) in
         rw e (mul-le-mul-right (2 ^ 971) (below q (lt-of-mul-lt-mul-right (2 ^ 971) {m = q} {n = 2 ^ 53} (lt-of-le-of-lt (le-of-eq (sym e)) b))))
 
 fits-most : (m : ℕ) (e : ℤ) → T (fits binary64 (fin false m e)) → m * up e ≤ most * down e

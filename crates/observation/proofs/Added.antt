@@ -35,7 +35,8 @@ module _ (o : Observations) (s : PacketResultsSummary) where
       → ((refusal : ℕ) → (refusal ≡ 0 → ⊥) → P (Window.refused o refusal))
       → (sums .refusal ≡ 0 → Window.completes span ≡ true → Window.observed (sums .partial) (o .«num_observations») span .refusal ≡ 0
       → P (record { observations = Window.withCeiling stored (Ratio.instantUpperBound stored .rate); completed = true; refusal = 0 }))
-      → (sums .refusal ≡ 0 → Window.completes span ≡ false → P (record { observations = Window.withPartial o (sums .partial) from; completed = false; refusal = 0 }))
+      → (sums .refusal ≡ 0 → Window.completes span ≡ false
+      → P (record { observations = Window.withPartial o (sums .partial) from; completed = false; refusal = 0 }))
       → P (Window.added o s)
   unfolding Window.added Window.completed Window.renewed
   added-by P refused more less =

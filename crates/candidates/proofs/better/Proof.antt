@@ -20,7 +20,9 @@ judged-requires c κs = search needs
 
 returns-2 : tie.Need-returns-2
 unfolding better
-returns-2 c = rw (eq-eqb _ _ (c .before .before .before .if1 .left), c .judged .ensures, c .before .get-objective .ensures, c .before .before .newtons-method-update .ensures)
+returns-2 c =
+    rw (eq-eqb _ _ (c .before .before .before .if1 .left), c .judged .ensures, c .before .get-objective .ensures)
+    (rw (c .before .before .newtons-method-update .ensures))
 
 pub better-spec : {M : Type 1} → statement M
 better-spec =

@@ -46,7 +46,8 @@ loop-again c =
     let n = b .before .used .result in (
       omega arith,
       b .loop .inv .1,
-      fold-again-take _ _ _ _ _ n (b .loop .i) _ (omega arith) (omega (arith, b .loop .inv .1, b .before .used .ensures .1)) (c .better .ensures) (b .loop .inv .2),
+      fold-again-take _ _ _ _ _ n (b .loop .i) _ (omega arith) (omega (arith, b .loop .inv .1, b .before .used .ensures .1)) (c .better .ensures)
+          (b .loop .inv .2),
     )
 
 answered-requires : tie.Need-answered-requires Inv-loop μ-loop

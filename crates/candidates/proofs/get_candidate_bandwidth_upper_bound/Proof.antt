@@ -21,7 +21,8 @@ returns : tie.Need-returns
 unfolding upperBound
 returns c =
     let b = c .before in
-    rw (← b .before .before .before .current-window-bound .ensures, ← b .before .before .min .ensures, ← b .before .min-of-valid .ensures, ← b .is-valid .ensures, not-true (b .is-valid .result) (c .if1 .taken))
+    rw (← b .before .before .before .current-window-bound .ensures, ← b .before .before .min .ensures, ← b .before .min-of-valid .ensures)
+    (rw (← b .is-valid .ensures, not-true (b .is-valid .result) (c .if1 .taken)))
 
 is-exact-requires : tie.Need-is-exact-requires
 is-exact-requires c κs = search needs
@@ -49,19 +50,26 @@ unfolding upperBound
 returns-2 c =
     let e = c .before .before .before .before .before in
     let b = e .before .before .before .before .before in
-    rw (← b .before .before .before .current-window-bound .ensures, ← b .before .before .min .ensures, ← b .before .min-of-valid .ensures, ← b .is-valid .ensures, not-false (b .is-valid .result) (e .before .before .before .before .if1 .left), ← e .before .before .before .is-exact .ensures, e .before .before .if2 .taken, ← e .before .is-exact2 .ensures, e .if3 .taken, ← c .before .before .before .before .sub .ensures, ← c .before .before .before .max .ensures, ← c .before .before .rampup-acceleration .ensures, ← c .before .mul-f64 .ensures, ← c .add .ensures)
+    rw (← b .before .before .before .current-window-bound .ensures, ← b .before .before .min .ensures, ← b .before .min-of-valid .ensures)
+    (rw (← b .is-valid .ensures, not-false (b .is-valid .result) (e .before .before .before .before .if1 .left))
+    (rw (← e .before .before .before .is-exact .ensures, e .before .before .if2 .taken, ← e .before .is-exact2 .ensures, e .if3 .taken)
+    (rw (← c .before .before .before .before .sub .ensures, ← c .before .before .before .max .ensures)
+    (rw (← c .before .before .rampup-acceleration .ensures, ← c .before .mul-f64 .ensures, ← c .add .ensures)))))
 
 returns-3 : tie.Need-returns-3
 unfolding upperBound
 returns-3 c =
     let b = c .before .before .before .before .before in
-    rw (← b .before .before .before .current-window-bound .ensures, ← b .before .before .min .ensures, ← b .before .min-of-valid .ensures, ← b .is-valid .ensures, not-false (b .is-valid .result) (c .before .before .before .before .if1 .left), ← c .before .before .before .is-exact .ensures, c .before .before .if2 .taken, ← c .before .is-exact2 .ensures, c .if3 .left)
+    rw (← b .before .before .before .current-window-bound .ensures, ← b .before .before .min .ensures, ← b .before .min-of-valid .ensures)
+    (rw (← b .is-valid .ensures, not-false (b .is-valid .result) (c .before .before .before .before .if1 .left))
+    (rw (← c .before .before .before .is-exact .ensures, c .before .before .if2 .taken, ← c .before .is-exact2 .ensures, c .if3 .left)))
 
 returns-4 : tie.Need-returns-4
 unfolding upperBound
 returns-4 c =
     let b = c .before .before .before in
-    rw (← b .before .before .before .current-window-bound .ensures, ← b .before .before .min .ensures, ← b .before .min-of-valid .ensures, ← b .is-valid .ensures, not-false (b .is-valid .result) (c .before .before .if1 .left), ← c .before .is-exact .ensures, c .if2 .left)
+    rw (← b .before .before .before .current-window-bound .ensures, ← b .before .before .min .ensures, ← b .before .min-of-valid .ensures)
+    (rw (← b .is-valid .ensures, not-false (b .is-valid .result) (c .before .before .if1 .left), ← c .before .is-exact .ensures, c .if2 .left))
 
 pub get-candidate-bandwidth-upper-bound-spec : {M : Type 1} → statement M
 get-candidate-bandwidth-upper-bound-spec =

@@ -64,7 +64,25 @@ returns c =
     let k = c .before .before .before in
     let d = k .before .before .before .before in
     let f = d .before .before .before in
-    rw (c .push-if3 .ensures, c .before .candidate6 .ensures, c .before .before .mul-f642 .ensures, k .push-if2 .ensures, k .before .is-valid .ensures, k .before .before .candidate5 .ensures, k .before .before .before .mul-f64 .ensures, d .push-if .ensures, d .before .candidate4 .ensures, d .before .before .is-above .ensures, f .candidate3 .ensures, f .before .scaled3 .ensures, f .before .before .candidate2 .ensures, f .before .before .before .scaled2 .ensures, f .before .before .before .before .candidate .ensures, f .before .before .before .before .before .scaled .ensures, f .before .before .before .before .before .before .get-candidate-bandwidth-upper-bound .ensures)
+    rw (
+      c .push-if3 .ensures,
+      c .before .candidate6 .ensures,
+      c .before .before .mul-f642 .ensures,
+      k .push-if2 .ensures,
+      k .before .is-valid .ensures,
+      k .before .before .candidate5 .ensures,
+      k .before .before .before .mul-f64 .ensures,
+      d .push-if .ensures,
+      d .before .candidate4 .ensures,
+      d .before .before .is-above .ensures,
+      f .candidate3 .ensures,
+      f .before .scaled3 .ensures,
+      f .before .before .candidate2 .ensures,
+      f .before .before .before .scaled2 .ensures,
+      f .before .before .before .before .candidate .ensures,
+      f .before .before .before .before .before .scaled .ensures,
+      f .before .before .before .before .before .before .get-candidate-bandwidth-upper-bound .ensures,
+    )
     (pushed-are-placed (candidate _ (upperBound _)) _ _ _ _ _ _ _ _ _)
 
 pub get-candidates-spec : {M : Type 1} → statement M

@@ -18,7 +18,9 @@ enum-told c = search needs
 
 returns : tie.Need-returns
 unfolding capacity
-returns c = rw (c .min-of-valid .ensures, c .before .before .before .before .before .infinity .ensures, c .before .before .before .before .if1 .taken, c .before .before .link-capacity-estimate .given .1)
+returns c =
+    rw (c .min-of-valid .ensures, c .before .before .before .before .before .infinity .ensures, c .before .before .before .before .if1 .taken)
+    (rw (c .before .before .link-capacity-estimate .given .1))
 
 returns-2 : tie.Need-returns-2
 unfolding capacity

@@ -18,7 +18,9 @@ as-secs-f64-requires-3 c κs = search needs
 
 returns : tie.Need-returns
 unfolding acceleration
-returns c = rw (c .as-secs-f643 .ensures, ← c .before .before .before .as-secs-f64 .ensures, ← c .before .before .as-secs-f642 .ensures, ← c .before .min .ensures)
+returns c =
+    rw (c .as-secs-f643 .ensures, ← c .before .before .before .as-secs-f64 .ensures, ← c .before .before .as-secs-f642 .ensures)
+    (rw (← c .before .min .ensures))
 
 pub rampup-acceleration-spec : {M : Type 1} → statement M
 rampup-acceleration-spec =

@@ -1,15 +1,12 @@
 -- `estimator::first_refusal` meets its contract. Assumes nothing.
 use borrow.Author.Tests.{eq-eqb, ne-eqb}
-use Rattle.estimator.specs.Update.{firstRefusal}
 use Rattle.estimator.proofs.first_refusal.Statement.{statement}
 use Rattle.estimator.proofs.first_refusal.Tie as tie
 
 returns : tie.Need-returns
-unfolding firstRefusal
 returns c = rw (ne-eqb _ _ (c .if1 .taken))
 
 returns-2 : tie.Need-returns-2
-unfolding firstRefusal
 returns-2 c = rw (eq-eqb _ _ (c .if1 .left))
 
 pub first-refusal-spec : {M : Type 1} → statement M

@@ -24,7 +24,8 @@ returns-2 c =
     let p = c .before .before .before .before .before .powi2 in
     let b = c .before .before .before .before .before .before in
     let a = b .before .before .before .before in
-    rw (not-false (a .before .before .before .args .row .«is_initialized») (a .before .if1 .left), ← a .get-loss-probability .ensures, ← b .powi .ensures, ← p .ensures)
+    rw (not-false (a .before .before .before .args .row .«is_initialized») (a .before .if1 .left), ← a .get-loss-probability .ensures)
+    (rw (← b .powi .ensures, ← p .ensures))
 
 pub add-derivatives-spec : {M : Type 1} → statement M
 add-derivatives-spec =

@@ -43,7 +43,8 @@ returns-2 : tie.Need-returns-2
 unfolding congested
 returns-2 c =
     let b = c .before .before in
-    rw (← b .before .before .before .is-valid .ensures, b .before .before .if1 .taken, ← b .before .is-valid2 .ensures, b .if2 .taken, ← c .before .gt .ensures, c .if3 .left)
+    rw (← b .before .before .before .is-valid .ensures, b .before .before .if1 .taken, ← b .before .is-valid2 .ensures, b .if2 .taken)
+    (rw (← c .before .gt .ensures, c .if3 .left))
 
 returns-3 : tie.Need-returns-3
 unfolding congested

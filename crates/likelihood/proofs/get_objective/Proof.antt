@@ -1,7 +1,7 @@
 -- `get_objective` meets its contract. The loop's invariant: what is left of the rows, added to the objective so far, gives the whole.
 -- Assumes nothing.
 use Prim.Native.Nat.{_<_, _≤_, _-_}
-use mathlib.Core.Path.{_≡_, refl}
+use mathlib.Core.Path.{_≡_}
 use mathlib.Core.List.{foldl}
 use native.Mathlib.Omega.{arith}
 use borrow.Author.Needs.{needs}

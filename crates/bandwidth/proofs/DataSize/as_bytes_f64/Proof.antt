@@ -1,6 +1,4 @@
 -- `DataSize::as_bytes_f64` meets its contract: the two tests are the library's `inFloat`. Assumes nothing.
-use borrow.Author.Needs.{needs}
-use mathlib.Core.Path.{sym}
 use Rattle.bandwidth.proofs.Field.{field}
 use Rattle.bandwidth.proofs.Exact.{exact, too-low, too-high}
 use Rattle.bandwidth.specs.Size.{float}

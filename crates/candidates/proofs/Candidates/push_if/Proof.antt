@@ -1,7 +1,7 @@
 -- `Candidates::push_if` meets its contract. Assumes nothing.
 use borrow.Author.Tests.{lt-ltb, le-ltb}
 use borrow.Author.Needs.{needs}
-use Rattle.candidates.specs.Candidate.{pushed}
+use Rattle.candidates.specs.Pushed.{pushed}
 use Rattle.candidates.proofs.Candidates.push_if.Statement.{statement}
 use Rattle.candidates.proofs.Candidates.push_if.Tie as tie
 

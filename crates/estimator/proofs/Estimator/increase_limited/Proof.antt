@@ -15,7 +15,9 @@ increase-limited-due-to-loss-requires c κs = search needs
 
 returns : tie.Need-returns
 unfolding increaseLimited
-returns c = rw (← c .before .before .before .not-increased-above-inherent-loss .ensures, ← c .before .before .is-bandwidth-limited-due-to-loss .ensures, c .before .if1 .taken, ← c .increase-limited-due-to-loss .ensures)
+returns c =
+    rw (← c .before .before .before .not-increased-above-inherent-loss .ensures)
+    (rw (← c .before .before .is-bandwidth-limited-due-to-loss .ensures, c .before .if1 .taken, ← c .increase-limited-due-to-loss .ensures))
 
 returns-2 : tie.Need-returns-2
 unfolding increaseLimited

@@ -27,18 +27,22 @@ unfolding increaseLimitedDueToLoss
 returns-2 c =
     let a = c .before .before .before in
     let b = a .before .before .before in
-    rw (← b .before .bounded .ensures, eq-eqb _ _ (b .if1 .left), ← a .before .before .is-estimate-increasing-when-loss-limited .ensures, a .before .if2 .taken, ← c .before .before .is-valid .ensures, c .before .if3 .taken, ← c .ramped-up .ensures)
+    rw (← b .before .bounded .ensures, eq-eqb _ _ (b .if1 .left), ← a .before .before .is-estimate-increasing-when-loss-limited .ensures)
+    (rw (a .before .if2 .taken, ← c .before .before .is-valid .ensures, c .before .if3 .taken, ← c .ramped-up .ensures))
 
 returns-3 : tie.Need-returns-3
 unfolding increaseLimitedDueToLoss
 returns-3 c =
     let a = c .before .before .before in
     let b = a .before .before .before in
-    rw (← b .bounded .ensures, eq-eqb _ _ (a .before .before .if1 .left), ← a .before .is-estimate-increasing-when-loss-limited .ensures, a .if2 .taken, ← c .before .is-valid .ensures, c .if3 .left)
+    rw (← b .bounded .ensures, eq-eqb _ _ (a .before .before .if1 .left), ← a .before .is-estimate-increasing-when-loss-limited .ensures)
+    (rw (a .if2 .taken, ← c .before .is-valid .ensures, c .if3 .left))
 
 returns-4 : tie.Need-returns-4
 unfolding increaseLimitedDueToLoss
-returns-4 c = rw (← c .before .before .before .bounded .ensures, eq-eqb _ _ (c .before .before .if1 .left), ← c .before .is-estimate-increasing-when-loss-limited .ensures, c .if2 .left)
+returns-4 c =
+    rw (← c .before .before .before .bounded .ensures, eq-eqb _ _ (c .before .before .if1 .left))
+    (rw (← c .before .is-estimate-increasing-when-loss-limited .ensures, c .if2 .left))
 
 pub increase-limited-due-to-loss-spec : {M : Type 1} → statement M
 increase-limited-due-to-loss-spec =

@@ -25,13 +25,15 @@ unfolding isEstimateIncreasingWhenLossLimited
 returns-2 c =
     let a = c .before .before .before in
     let b = a .before .before .before in
-    rw (← b .is-bandwidth-limited-due-to-loss .ensures, a .before .before .if1 .taken, ← a .before .lt .ensures, a .if2 .left, ← c .before .before .eq .ensures, c .before .if3 .taken, ← c .is-increasing .ensures)
+    rw (← b .is-bandwidth-limited-due-to-loss .ensures, a .before .before .if1 .taken, ← a .before .lt .ensures, a .if2 .left)
+    (rw (← c .before .before .eq .ensures, c .before .if3 .taken, ← c .is-increasing .ensures))
 
 returns-3 : tie.Need-returns-3
 unfolding isEstimateIncreasingWhenLossLimited
 returns-3 c =
     let a = c .before .before .before in
-    rw (← a .before .before .is-bandwidth-limited-due-to-loss .ensures, a .before .if1 .taken, ← a .lt .ensures, c .before .before .if2 .left, ← c .before .eq .ensures, c .if3 .left)
+    rw (← a .before .before .is-bandwidth-limited-due-to-loss .ensures, a .before .if1 .taken, ← a .lt .ensures, c .before .before .if2 .left)
+    (rw (← c .before .eq .ensures, c .if3 .left))
 
 returns-4 : tie.Need-returns-4
 unfolding isEstimateIncreasingWhenLossLimited

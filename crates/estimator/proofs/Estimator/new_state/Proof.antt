@@ -13,11 +13,15 @@ is-estimate-increasing-when-loss-limited-requires c κs = search needs
 
 returns : tie.Need-returns
 unfolding newState
-returns c = rw (← c .before .before .before .is-limiting .ensures, c .before .before .if1 .taken, ← c .before .is-estimate-increasing-when-loss-limited .ensures, c .if2 .taken)
+returns c =
+    rw (← c .before .before .before .is-limiting .ensures, c .before .before .if1 .taken)
+    (rw (← c .before .is-estimate-increasing-when-loss-limited .ensures, c .if2 .taken))
 
 returns-2 : tie.Need-returns-2
 unfolding newState
-returns-2 c = rw (← c .before .before .before .is-limiting .ensures, c .before .before .if1 .taken, ← c .before .is-estimate-increasing-when-loss-limited .ensures, c .if2 .left)
+returns-2 c =
+    rw (← c .before .before .before .is-limiting .ensures, c .before .before .if1 .taken)
+    (rw (← c .before .is-estimate-increasing-when-loss-limited .ensures, c .if2 .left))
 
 returns-3 : tie.Need-returns-3
 unfolding newState

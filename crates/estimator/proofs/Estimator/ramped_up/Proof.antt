@@ -34,20 +34,24 @@ returns c =
     let a = c .before .before .before in
     let b = a .before .before .before in
     let d = b .before .before .before in
-    rw (← d .rampup-factor .ensures, ← b .before .before .mul-f64 .ensures, ← b .before .min .ensures, ← b .max .ensures, ← a .before .before .is-decreasing .ensures, a .before .if1 .taken, ← a .eq .ensures, c .before .before .if2 .taken, ← c .before .bps .ensures, ← c .add .ensures)
+    rw (← d .rampup-factor .ensures, ← b .before .before .mul-f64 .ensures, ← b .before .min .ensures, ← b .max .ensures)
+    (rw (← a .before .before .is-decreasing .ensures, a .before .if1 .taken, ← a .eq .ensures, c .before .before .if2 .taken)
+    (rw (← c .before .bps .ensures, ← c .add .ensures)))
 
 returns-2 : tie.Need-returns-2
 unfolding rampedUp withinRampup
 returns-2 c =
     let a = c .before .before .before in
     let b = a .before .before .before in
-    rw (← b .before .rampup-factor .ensures, ← b .mul-f64 .ensures, ← a .before .before .min .ensures, ← a .before .max .ensures, ← a .is-decreasing .ensures, c .before .before .if1 .taken, ← c .before .eq .ensures, c .if2 .left)
+    rw (← b .before .rampup-factor .ensures, ← b .mul-f64 .ensures, ← a .before .before .min .ensures, ← a .before .max .ensures)
+    (rw (← a .is-decreasing .ensures, c .before .before .if1 .taken, ← c .before .eq .ensures, c .if2 .left))
 
 returns-3 : tie.Need-returns-3
 unfolding rampedUp withinRampup
 returns-3 c =
     let a = c .before .before .before in
-    rw (← a .before .before .rampup-factor .ensures, ← a .before .mul-f64 .ensures, ← a .min .ensures, ← c .before .before .max .ensures, ← c .before .is-decreasing .ensures, c .if1 .left)
+    rw (← a .before .before .rampup-factor .ensures, ← a .before .mul-f64 .ensures, ← a .min .ensures, ← c .before .before .max .ensures)
+    (rw (← c .before .is-decreasing .ensures, c .if1 .left))
 
 pub ramped-up-spec : {M : Type 1} → statement M
 ramped-up-spec =

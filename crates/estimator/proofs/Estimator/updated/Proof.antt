@@ -22,7 +22,8 @@ returns-2 : tie.Need-returns-2
 unfolding updated decided
 returns-2 c =
     let a = c .before .before .before in
-    rw (← a .before .before .increase-limited .ensures, eq-eqb _ _ (a .before .if1 .left), ← c .before .before .is-in-hold .ensures, c .before .if2 .taken, ← c .held .ensures)
+    rw (← a .before .before .increase-limited .ensures, eq-eqb _ _ (a .before .if1 .left), ← c .before .before .is-in-hold .ensures)
+    (rw (c .before .if2 .taken, ← c .held .ensures))
 
 with-new-state-requires : tie.Need-with-new-state-requires
 with-new-state-requires c κs = search needs
@@ -31,7 +32,8 @@ returns-3 : tie.Need-returns-3
 unfolding updated decided
 returns-3 c =
     let a = c .before .before .before in
-    rw (← a .before .before .increase-limited .ensures, eq-eqb _ _ (a .before .if1 .left), ← c .before .before .is-in-hold .ensures, c .before .if2 .left, ← c .with-new-state .ensures)
+    rw (← a .before .before .increase-limited .ensures, eq-eqb _ _ (a .before .if1 .left), ← c .before .before .is-in-hold .ensures)
+    (rw (c .before .if2 .left, ← c .with-new-state .ensures))
 
 pub updated-spec : {M : Type 1} → statement M
 updated-spec =

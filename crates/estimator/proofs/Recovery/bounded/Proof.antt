@@ -23,7 +23,9 @@ returns-2 c =
 
 returns-3 : tie.Need-returns-3
 unfolding bounded
-returns-3 c = rw (← c .before .before .before .window-end .ensures, eq-eqb _ _ (c .before .before .if1 .left), ← c .before .is-above-limit .ensures, c .if2 .left)
+returns-3 c =
+    rw (← c .before .before .before .window-end .ensures, eq-eqb _ _ (c .before .before .if1 .left), ← c .before .is-above-limit .ensures)
+    (rw (c .if2 .left))
 
 pub bounded-spec : {M : Type 1} → statement M
 bounded-spec =

@@ -13,7 +13,9 @@ window-end-requires c κs = search needs
 
 returns : tie.Need-returns
 unfolding renewed
-returns c = rw (← c .before .before .before .is-bandwidth-limited-due-to-loss .ensures, c .before .before .if1 .taken, ← c .before .window-end .ensures, ne-eqb _ _ (c .if2 .taken))
+returns c =
+    rw (← c .before .before .before .is-bandwidth-limited-due-to-loss .ensures, c .before .before .if1 .taken)
+    (rw (← c .before .window-end .ensures, ne-eqb _ _ (c .if2 .taken)))
 
 is-over-requires : tie.Need-is-over-requires
 is-over-requires c κs = search needs
@@ -26,13 +28,15 @@ unfolding renewed
 returns-2 c =
     let a = c .before .before .before in
     let b = a .before .before .before in
-    rw (← b .is-bandwidth-limited-due-to-loss .ensures, a .before .before .if1 .taken, ← a .before .window-end .ensures, eq-eqb _ _ (a .if2 .left), ← c .before .before .is-over .ensures, c .before .if3 .taken, ← c .opened .ensures)
+    rw (← b .is-bandwidth-limited-due-to-loss .ensures, a .before .before .if1 .taken, ← a .before .window-end .ensures)
+    (rw (eq-eqb _ _ (a .if2 .left), ← c .before .before .is-over .ensures, c .before .if3 .taken, ← c .opened .ensures))
 
 returns-3 : tie.Need-returns-3
 unfolding renewed
 returns-3 c =
     let a = c .before .before .before in
-    rw (← a .before .before .is-bandwidth-limited-due-to-loss .ensures, a .before .if1 .taken, ← a .window-end .ensures, eq-eqb _ _ (c .before .before .if2 .left), ← c .before .is-over .ensures, c .if3 .left)
+    rw (← a .before .before .is-bandwidth-limited-due-to-loss .ensures, a .before .if1 .taken, ← a .window-end .ensures)
+    (rw (eq-eqb _ _ (c .before .before .if2 .left), ← c .before .is-over .ensures, c .if3 .left))
 
 returns-4 : tie.Need-returns-4
 unfolding renewed
