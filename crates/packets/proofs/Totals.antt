@@ -13,7 +13,19 @@ use Rattle.float.proofs.Fold.{fold-again, fold-end}
 use Rattle.float.proofs.Refusal.{either, checked}
 use Rattle.float.proofs.Both.{both}
 use Rattle.packets.specs.Summary.{
-  mostPackets, latestTime, largestPacket, columnsRefusal, packets, packetRefusal, empty, refused, plus, addPacket, summaryOf, isOfReport, added,
+  mostPackets,
+  latestTime,
+  largestPacket,
+  columnsRefusal,
+  packets,
+  packetRefusal,
+  empty,
+  refused,
+  plus,
+  addPacket,
+  summaryOf,
+  isOfReport,
+  added,
 }
 use Rattle.packets.specs.declared.PacketResult.{PacketResult}
 use Rattle.packets.specs.declared.PacketResultsSummary.{PacketResultsSummary}
