@@ -15,7 +15,8 @@ use Rattle.float.specs.Rust.{magnitude}
 use Rattle.float.proofs.Exact.{sign-fits}
 use Rattle.float.proofs.Values.{yes, cast-inside}
 use Rattle.float.proofs.Parts.{below-one, less-whole}
-use Rattle.duration.specs.Seconds.{nanosPerSecond, refused, fitted, nearestNanos, fromSeconds, Proper}
+use Rattle.duration.specs.Nanos.{refused, fitted}
+use Rattle.duration.specs.Seconds.{nanosPerSecond, nearestNanos, fromSeconds, Proper}
 use Rattle.duration.proofs.Nearest.{closest-beside}
 
 -- ---- a float that is a / c

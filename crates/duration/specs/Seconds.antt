@@ -1,11 +1,11 @@
 -- Durations and their seconds as floats. Definitions only.
-use Prim.Native.Nat.{ℕ, _*_, _/_, _%_, _^_, _<_}
+use Prim.Native.Nat.{ℕ, _*_, _/_, _%_, _<_}
 use mathlib.Core.Bool.{true, false, cond}
-use lib.Dec.{ltb}
 use lib.IntN.{pos}
 use lib.Ieee.{Float, nan, inf, fin, binary64, ofInt, up, down, lt}
 use lib.Ieee.Nearest.{closest}
 use Rattle.float.specs.Rounded.{_⊕_, _⊘_, bits}
+use Rattle.duration.specs.Nanos.{refused, fitted}
 use Rattle.duration.specs.declared.Duration.{Duration}
 use Rattle.duration.specs.declared.DurationAnswer.{DurationAnswer}
 
@@ -21,13 +21,6 @@ unfoldable pub seconds : Duration → Float
 seconds d =
     ofInt binary64 (pos (d .nanos / nanosPerSecond))
     ⊕ ofInt binary64 (pos (d .nanos % nanosPerSecond)) ⊘ billion
-
-abbrev pub refused : DurationAnswer
-refused = record { duration = record { nanos = 0 }; refusal = 7 }
-
--- n ns, or 0 ns beside the number 7 where n fits no u64
-unfoldable pub fitted : ℕ → DurationAnswer
-fitted n = cond (ltb n (2 ^ 64)) (record { duration = record { nanos = n }; refusal = 0 }) refused
 
 -- the nearest ns of so many seconds, the sign left out: the exact value is rounded once, a tie to the even one
 unfoldable pub nearestNanos : Float → ℕ

@@ -15,7 +15,7 @@ use lib.Ieee.Exact.{HasValue}
 use lib.Ieee.Back.{round-whole}
 use lib.Ieee.Nearest.{div-same}
 use Rattle.float.specs.Rounded.{bits, _⊗_}
-use Rattle.float.specs.Rust.{magnitude, whole, ceiling, halfAway}
+use Rattle.float.specs.Rust.{magnitude, nearestWhole, ceiling, halfAway}
 use Rattle.float.proofs.Exact.{neg-round, sign-fits, fits-says, held-exact, whole-again}
 
 pub yes : {b : Bool} → b ≡ true → T b
@@ -180,7 +180,7 @@ unfolding ofInt
 part-test m e h =
     let n = m * up e / down e in
     let l : n < 2 ^ 52 = div-lt-iff-lt-mul (down-pos e) .1 h in
-    rw (part-is false m e h) (lt-whole (whole false n) n m e (round-whole binary64 false n (omega arith)))
+    rw (part-is false m e h) (lt-whole (nearestWhole false n) n m e (round-whole binary64 false n (omega arith)))
 
 pub ceil-above : (x : Float) → Small x → T (not (negative x)) → lt (ofInt binary64 (pos (part x))) x ≡ true → ofInt binary64 (pos (part x + 1)) ≡ ceiling x
 unfolding ceiling ofInt

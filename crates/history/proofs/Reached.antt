@@ -1,14 +1,13 @@
 -- What a controller that a list of calls has left keeps, besides its tie to the history: what the steps that might refuse rely on. Every call keeps it,
 -- and with it the steps after a complete observation are not refused. Assumes nothing.
-use Prim.Native.Nat.{ℕ, _^_}
-use mathlib.Core.Path.{_≡_, ap}
+use Prim.Native.Nat.{ℕ}
+use mathlib.Core.Path.{_≡_, refl, ap}
 use mathlib.Core.Bool.{Bool, true, false}
 use mathlib.Core.Option.{Option, none, some}
 use native.Mathlib.Omega.{arith}
-use borrow.Author.Tests.{le-leb}
 use lib.Dec.{T, eqb}
 use lib.IntN.{ℤ}
-use lib.Ieee.{Float, nan, inf, fin, binary64, le, lt, toBits}
+use lib.Ieee.{Float, nan, inf, fin, binary64, le, lt}
 use lib.Ieee.Bits.{ofBits-fits}
 use lib.Ieee.Fits.{inf-fits, sub-fits}
 use lib.Ieee.Scale.{finite}
@@ -61,8 +60,8 @@ infinite-taken : TakenRate (Rate.rate (inf false))
 infinite-taken = record { holds = inf-fits binary64 false; above = λ f. absurd f }
 
 sign-set : (m : ℕ) (e : ℤ) → signBit (fin true m e) ≡ true
-unfolding signBit toBits
-sign-set m e = le-leb (2 ^ 63) (toBits binary64 (fin true m e)) (omega arith)
+unfolding signBit
+sign-set m e = refl
 
 -- what code 2 takes
 by-code-2 : (x : Float) → Holds x → Setters.rateRefusal (Rate.rate x) ≡ 0 → TakenRate (Rate.rate x)

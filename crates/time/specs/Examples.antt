@@ -7,10 +7,10 @@ use lib.Ieee.{add, div, eq, inFloat, mul, neg, ofBits, ofInt}
 use Rattle.float.specs.Rounded.{bits}
 use Rattle.integer.specs.Fitted.{ordered}
 use Rattle.integer.specs.declared.Ordering.the-variants.{Less, Equal, Greater}
+use Rattle.duration.specs.Nanos as Nanos
 use Rattle.duration.specs.Seconds.{seconds}
 use Rattle.bandwidth.specs.Rate as Rate
 use Rattle.bandwidth.specs.Size.{size}
-use Rattle.time.specs.Nanos as Nanos
 use Rattle.time.specs.Delta as Delta
 use Rattle.time.specs.Time as Time
 use Rattle.time.specs.declared.TimeDelta.{TimeDelta}
