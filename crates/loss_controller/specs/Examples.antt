@@ -36,7 +36,7 @@ use Rattle.integer.specs.Fitted as Fitted
 use Rattle.duration.specs.Seconds as Seconds
 use Rattle.rounding.specs.Ratio as Loss
 use Rattle.float.specs.Answer as Answer
-use Rattle.packets.specs.Summary.{columnsRefusal, packets, packetRefusal, addPacket, summaryOf}
+use Rattle.packets.specs.Summary.{columnsRefusal, packets, packetRefusal, addPacket, summaryOf, isOfReport}
 use Rattle.observation.specs.Window as Window
 use Rattle.estimator.specs.State.{number}
 use Rattle.loss_controller.specs.Controller.{initial, answered, refused, withObservations, withEstimator, withInputs}
@@ -111,6 +111,22 @@ order :
     × report (0 ∷ []) (9 ∷ []) (2 ∷ []) megabit ≡ refused initial 8
 unfolding Report.updateBandwidthEstimate Setters.rateRefusal columnsRefusal packets packetRefusal addPacket summaryOf signBit lt ofBits toBits
 order = (refl, refl, refl, refl, refl)
+
+-- by its totals: 5 for 5,000 packets and for more lost than sent, before 2 and 3; totals that a report has get 2, then 3, and are reported
+abbrev by-totals : ℕ → ℕ → ℕ → ℕ → ControllerAnswer
+by-totals packets lost time delay =
+    Report.updateWithSummary initial
+    (record { «num_packets» = packets; «num_lost_packets» = lost; «total_size» = 0; «lost_size» = 0; «last_send_time» = time }) (Rate.rate (bits delay))
+
+totals :
+    by-totals 5000 0 0 0x8000000000000000 ≡ refused initial 5
+    × by-totals 3 4 4000000000000000001 megabit ≡ refused initial 5
+    × by-totals 3 3 4000000000000000001 0x8000000000000000 ≡ refused initial 2
+    × by-totals 3 3 4000000000000000001 megabit ≡ refused initial 3
+    × by-totals 3 3 7 megabit ≡ report (7 ∷ 7 ∷ 0 ∷ []) (0 ∷ 0 ∷ 0 ∷ []) (1 ∷ 1 ∷ 1 ∷ []) megabit
+unfolding Report.updateBandwidthEstimate Report.updateWithSummary Setters.rateRefusal Setters.timeRefusal
+    columnsRefusal packets packetRefusal addPacket summaryOf isOfReport signBit lt ofBits toBits
+totals = (refl, refl, refl, refl, refl)
 
 -- an empty one stores the delay estimate and does no more
 empty : Report.updateBandwidthEstimate initial [] [] [] (Rate.rate (bits megabit)) ≡ answered (Report.withDelayBasedEstimate initial (Rate.rate (bits megabit)))
