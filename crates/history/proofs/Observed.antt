@@ -54,7 +54,7 @@ module _ (o : Observations) (h : History) (t : Tied o h) (q : PartialObservation
   taken = observed-taken q (o .«num_observations») span counted room
 
   ceiling-taken : Ratio.instantUpperBound (Window.stored o (Window.observed q (o .«num_observations») span .observation) (Exact sent)) .refusal ≡ 0
-  unfolding Ratio.instantUpperBound Ratio.reported Window.withCeiling
+  unfolding Ratio.instantUpperBound Ratio.averageReportedLossRatio Window.withCeiling
   ceiling-taken =
       let new = observed-held q (o .«num_observations») span taken in
       tied-ceiling-taken _ (completed h (pairOf q) sent) (completed-tied o h t _ (pairOf q) sent (new .0) (new .1) room part)

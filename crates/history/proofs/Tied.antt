@@ -50,7 +50,7 @@ pub record Tied (o : Observations) (h : History) : Type 0 where
 -- ---- a start or a reset
 
 no-ceiling : (n : ℕ) → Ratio.cached (Window.cleared n .«cached_instant_upper_bound») ≡ Ratio.validOrMax (Ratio.instantUpperBound (Window.cleared n) .rate)
-unfolding Window.cleared Ratio.cached Ratio.validOrMax Ratio.instantUpperBound Ratio.reported Ratio.readable Ratio.window Ratio.instantLimit lossRatio eq lt ofBits
+unfolding Window.cleared Ratio.cached Ratio.validOrMax Ratio.instantUpperBound Ratio.averageReportedLossRatio Ratio.readable Ratio.window Ratio.instantLimit lossRatio eq lt ofBits
 no-ceiling n = refl
 
 -- cleared observations are tied to a history without pairs, of the same count
@@ -143,7 +143,7 @@ observed-held q id span h =
 -- ---- a report
 module _ (o : Observations) (h : History) (t : Tied o h) where
   running-tied : (q : PartialObservation) (p : Pair) (packets time : ℕ) → pairOf q ≡ p → q .«num_packets» ≡ packets → Part p → Tied (Window.withPartial o q (Exact time)) (running h p packets time)
-  unfolding Window.withPartial running Ratio.instantUpperBound Ratio.reported
+  unfolding Window.withPartial running Ratio.instantUpperBound Ratio.averageReportedLossRatio
   running-tied q p packets time same counted part = record {
     count = t .count;
     slots = t .slots;
@@ -157,7 +157,7 @@ module _ (o : Observations) (h : History) (t : Tied o h) where
 
   pub completed-tied : (new : Observation) (p : Pair) (sent : ℕ) → new .id ≡ o .«num_observations» → held new ≡ some (o .«num_observations», p) → p .bytes ≤ 10 ^ 12 → Part p
       → Tied (Window.withCeiling (Window.stored o new (Exact sent)) (Ratio.instantUpperBound (Window.stored o new (Exact sent)) .rate)) (completed h p sent)
-  unfolding Window.withCeiling Window.stored completed Ratio.instantUpperBound Ratio.reported Ratio.cached
+  unfolding Window.withCeiling Window.stored completed Ratio.instantUpperBound Ratio.averageReportedLossRatio Ratio.cached
   completed-tied new p sent id holds room part = record {
     count = rw (t .count);
     slots = rw (map-set held (o .observations) (new .id % 15) new, holds, id, t .slots, t .count) (slots-turn (h .count) p (h .pairs));

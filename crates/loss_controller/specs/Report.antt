@@ -56,7 +56,7 @@ updatedEstimator c =
     let e = c .estimator in
     let current = e .«current_estimate» in
     let rows = Rows.rows (c .observations) in
-    let ratio = Ratio.reported (c .observations) in
+    let ratio = Ratio.averageReportedLossRatio (c .observations) in
     let choice = Choice.choice current (Candidate.candidates current (bounds c)) (rows .rows) (ratio .value) in
     cond (eqb (rows .refusal) 0)
     (cond (eqb (ratio .refusal) 0)

@@ -1,7 +1,6 @@
 // `LossController` of src/bwe/loss_controller.rs, its calls by value. A call that is refused hands
 // the controller back as it was.
 ghost use mathlib.Core.Path.{_≡_};
-ghost use Rattle.observation.specs.Ratio as Ratio;
 ghost use Rattle.loss_controller.specs.Controller as Controller;
 ghost use Rattle.loss_controller.specs.Setters as Setters;
 ghost use Rattle.loss_controller.specs.Report as Steps;

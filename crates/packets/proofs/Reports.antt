@@ -1,19 +1,19 @@
 -- The totals that pass the test are those of some report, and those of every report pass it. Assumes nothing.
 use Prim.Native.Nat.{ℕ, zero, suc, _+_, _-_, _*_, _≤_}
-use mathlib.Core.Path.{_≡_, refl, ap, sym, _∙_}
+use mathlib.Core.Path.{_≡_, refl, ap, _∙_}
 use mathlib.Core.Bool.{Bool, true, false, cond}
 use mathlib.Core.List.{List, [], _∷_, map, foldl}
 use native.Mathlib.Omega.{arith}
 use borrow.Author.Tests.{eq-eqb, le-leb, leb-true, leb-false, ltb-false}
-use lib.Dec.{eqb, leb, ltb}
+use lib.Dec.{leb, ltb, lit≤}
 use lib.ListN.{length, getD, length-map}
 use Rattle.float.proofs.Refusal.{checked}
 use Rattle.packets.specs.Summary.{mostPackets, latestTime, largestPacket, columnsRefusal, packets, packetRefusal}
-use Rattle.packets.specs.Summary.{empty, refused, later, addPacket, summaryOf, isOfReport}
+use Rattle.packets.specs.Summary.{refused, later, addPacket, summaryOf, isOfReport}
 use Rattle.packets.specs.declared.PacketResult.{PacketResult}
 use Rattle.packets.specs.declared.PacketResultsSummary.{PacketResultsSummary}
 use Rattle.packets.specs.declared.SummaryAnswer.{SummaryAnswer}
-use Rattle.packets.proofs.Totals.{Even, TotalsOf, not-refused, packets-length, none-within, within-larger, within-more, of-report, totals-of}
+use Rattle.packets.proofs.Totals.{TotalsOf, not-refused, packets-length, none-within, within-larger, within-more, of-report, totals-of}
 
 -- ---- every report's totals pass the test
 
@@ -139,30 +139,22 @@ module _ (time : ℕ) (early : time ≤ latestTime) where
   answer-is : {n n' m m' t t' l l' : ℕ} → n ≡ n' → m ≡ m' → t ≡ t' → l ≡ l' → answer time n m t l ≡ answer time n' m' t' l'
   answer-is a b c d = λ i. answer time (a i) (b i) (c i) (d i)
 
-  -- packets that arrived
-  arrived-fold : (k bytes n m t l : ℕ) (ps : List PacketResult) → bytes ≤ largestPacket * k
-      → foldl addPacket (answer time n m t l) (spread time 0 k bytes ps) ≡ foldl addPacket (answer time (n + k) m (t + bytes) l) ps
+  -- packets with one flag, then others
+  spread-fold : (flag k bytes n m t l : ℕ) (ps : List PacketResult) → flag ≤ 1 → bytes ≤ largestPacket * k
+      → foldl addPacket (answer time n m t l) (spread time flag k bytes ps) ≡ foldl addPacket (answer time (n + k) (m + k * flag) (t + bytes) (l + bytes * flag)) ps
   unfolding spread
-  arrived-fold zero bytes n m t l ps h = ap (λ (a : SummaryAnswer). foldl addPacket a ps) (answer-is (omega arith) refl (omega arith) refl)
-  arrived-fold (suc k) bytes n m t l ps h =
-      let p = part-small bytes in
-      ap (λ (a : SummaryAnswer). foldl addPacket a (spread time 0 k (bytes - part bytes) ps)) (one-more n m t l (part bytes) 0 (omega arith))
-      ∙ arrived-fold k (bytes - part bytes) _ _ _ _ ps (part-left k bytes h)
+  spread-fold flag zero bytes n m t l ps f h =
+      let z : bytes ≡ 0 = omega arith in
+      rw z (ap (λ (a : SummaryAnswer). foldl addPacket a ps) (answer-is (omega arith) (omega arith) (omega arith) (omega arith)))
+  spread-fold flag (suc k) bytes n m t l ps f h =
+      let rest = bytes - part bytes in
+      let p : part bytes + rest ≡ bytes = omega (arith, part-small bytes) in
+      let q = ap (λ (x : ℕ). x * flag) p in
+      ap (λ (a : SummaryAnswer). foldl addPacket a (spread time flag k rest ps)) (one-more n m t l (part bytes) flag f)
+      ∙ (spread-fold flag k rest (n + 1) (m + flag) (t + part bytes) (l + part bytes * flag) ps f (part-left k bytes h)
       ∙ ap (λ (a : SummaryAnswer). foldl addPacket a ps)
-      (answer-is {n = n + 1 + k} {m = m + 0} {t = t + part bytes + (bytes - part bytes)} {l = l + part bytes * 0} (omega arith) (omega arith) (omega arith) (omega arith))
-
-  -- packets that were lost
-  lost-fold : (k bytes n m t l : ℕ) (ps : List PacketResult) → bytes ≤ largestPacket * k
-      → foldl addPacket (answer time n m t l) (spread time 1 k bytes ps) ≡ foldl addPacket (answer time (n + k) (m + k) (t + bytes) (l + bytes)) ps
-  unfolding spread
-  lost-fold zero bytes n m t l ps h = ap (λ (a : SummaryAnswer). foldl addPacket a ps) (answer-is (omega arith) (omega arith) (omega arith) (omega arith))
-  lost-fold (suc k) bytes n m t l ps h =
-      let p = part-small bytes in
-      ap (λ (a : SummaryAnswer). foldl addPacket a (spread time 1 k (bytes - part bytes) ps)) (one-more n m t l (part bytes) 1 (omega arith))
-      ∙ lost-fold k (bytes - part bytes) _ _ _ _ ps (part-left k bytes h)
-      ∙ ap (λ (a : SummaryAnswer). foldl addPacket a ps)
-      (answer-is {n = n + 1 + k} {m = m + 1 + k} {t = t + part bytes + (bytes - part bytes)} {l = l + part bytes * 1 + (bytes - part bytes)}
-      (omega arith) (omega arith) (omega arith) (omega arith))
+      (answer-is {n = n + 1 + k} {m = m + flag + k * flag} {t = t + part bytes + rest} {l = l + part bytes * flag + rest * flag}
+      (omega arith) (omega arith) (omega arith) (omega arith)))
 
   made : ℕ → ℕ → ℕ → ℕ → List PacketResult
   made m r lost others = spread time 1 m lost (spread time 0 r others [])
@@ -200,7 +192,7 @@ some-report s e early =
       few = few;
       small = spread-small time 1 m (s .«lost_size») _ (spread-small time 0 r others [] (λ i. omega arith));
       sums = summary-of ps few ∙ (started time early m r (s .«lost_size») others (λ z. w .timed (omega (arith, w .lost-packets-within)))
-          ∙ (lost-fold time early m (s .«lost_size») 0 0 0 0 _ (w .lost-within)
-          ∙ (arrived-fold time early r others _ _ _ _ [] (w .others-within)
+          ∙ (spread-fold time early 1 m (s .«lost_size») 0 0 0 0 _ (lit≤ tt) (w .lost-within)
+          ∙ (spread-fold time early 0 r others _ _ _ _ [] (lit≤ tt) (w .others-within)
           ∙ answer-is time early (omega (arith, w .lost-packets-within)) (omega arith) (omega (arith, w .lost-size-within)) (omega arith))));
     }
