@@ -140,7 +140,7 @@ ceiling-holds : (o : Observations) (h : History) → Tied o h → Holds (Ratio.c
 unfolding Ratio.validOrMax Ratio.instantUpperBound
 ceiling-holds o h t =
     let limit = Ratio.instantUpperBound o .rate in
-    let ratio = Ratio.reported o in
+    let ratio = Ratio.averageReportedLossRatio o in
     rw (t .ceiling)
     (either HoldsRate (finite (limit .bps)) limit _
     (either HoldsAnswer (eqb (ratio .refusal) 0) (Ratio.instantLimit (ratio .value)) Rate.refused (limit-holds (ratio .value)) zero-holds)
@@ -162,7 +162,7 @@ updated-taken c h t k f =
     let o = c .observations in
     let e = c .estimator in
     let b = Report.bounds c in
-    let ratio = Ratio.reported o in
+    let ratio = Ratio.averageReportedLossRatio o in
     let fit = bound-holds b (capacity-holds (Setters.isInAlr c) (c .inputs .«link_capacity_estimate») (k .capacity)) (k .rates .limit .holds) (ceiling-holds o h t) (k .delay .holds) in
     let choice = chosen (e .«current_estimate») b (Rows.rows o .rows) (ratio .value) (k .rates .current f) f (k .delay .above) (k .acknowledged .above) fit (rows-sent o (k .sent)) in
     checked-by Taken (Rows.rows o .refusal)

@@ -21,7 +21,7 @@ use Rattle.time.specs.Time as Time
 use Rattle.logarithm.specs.Power.{weight}
 use Rattle.rounding.specs.Exact.{exactSum, ratioPart, ceilingPart}
 use Rattle.rounding.specs.Plain.{plain}
-use Rattle.rounding.specs.Ratio.{lossRatio}
+use Rattle.rounding.specs.Ratio.{lossRatio, lossCeiling}
 use Rattle.packets.specs.Summary.{columnsRefusal, packets, packetRefusal, addPacket, summaryOf}
 use Rattle.observation.specs.Partial.{updated}
 use Rattle.observation.specs.Ratio as Ratio
@@ -76,7 +76,7 @@ record Outcome : Type 0 where
 
 -- with every definition that it computes by
 outcome : List Call → Outcome
-unfolding meets judged lossy near bounded refusalOf reportRefusal packetsRefusal step toldOf allTold fed heard switched reported completed running bytesOf lostOf latest aged exactSum allBytes Setters.rateRefusal Setters.startRefusal Setters.timeRefusal Setters.setBandwidthEstimate Setters.withAlrStartTime Setters.resetObservations Setters.setAlrStartTime Report.hasValidEstimate Report.observed Report.withDelayBasedEstimate Report.reported Report.updateBandwidthEstimate withObservations withEstimator withInputs published lossBasedResult averageReportedLossRatio columnsRefusal packets packetRefusal addPacket summaryOf updated Ratio.age Ratio.window Ratio.readable Ratio.reported Ratio.instantLimit Ratio.instantUpperBound Ratio.validOrMax Ratio.cached Window.cleared Window.reference Window.completes Window.full Window.observed Window.stored Window.withCeiling Window.withPartial Window.renewed Window.completed Window.added atMost minimum signBit Rate.over Rate.smaller Delta.difference Delta.inSeconds Delta.order Delta.rate Time.since ordered seconds weight lossRatio add div eq inFloat isNan lt mul ofBits ofInt sub toBits
+unfolding meets judged lossy near bounded refusalOf reportRefusal packetsRefusal step toldOf allTold fed heard switched reported completed running bytesOf lostOf latest aged exactSum allBytes Setters.rateRefusal Setters.startRefusal Setters.timeRefusal Setters.setBandwidthEstimate Setters.withAlrStartTime Setters.resetObservations Setters.setAlrStartTime Report.hasValidEstimate Report.observed Report.withDelayBasedEstimate Report.reported Report.updateBandwidthEstimate withObservations withEstimator withInputs published lossBasedResult averageReportedLossRatio columnsRefusal packets packetRefusal addPacket summaryOf updated Ratio.age Ratio.window Ratio.readable Ratio.averageReportedLossRatio lossCeiling Ratio.instantLimit Ratio.instantUpperBound Ratio.validOrMax Ratio.cached Window.cleared Window.reference Window.completes Window.full Window.observed Window.stored Window.withCeiling Window.withPartial Window.renewed Window.completed Window.added atMost minimum signBit Rate.over Rate.smaller Delta.difference Delta.inSeconds Delta.order Delta.rate Time.since ordered seconds weight lossRatio add div eq inFloat isNan lt mul ofBits ofInt sub toBits
 outcome calls = let h = after (told calls) in record { met = judged initial fresh calls && meets (left calls) h; count = h .count; loses = lossy h }
 
 -- ---- the lists, of packets of 1,000 bytes. The estimate comes last, so that the steps after an observation are not computed

@@ -51,7 +51,7 @@ pub record Tied (o : Observations) (h : History) : Type 0 where
 -- ---- a start or a reset
 
 no-ceiling : (n : ℕ) → Ratio.cached (Window.cleared n .«cached_instant_upper_bound») ≡ Ratio.validOrMax (Ratio.instantUpperBound (Window.cleared n) .rate)
-unfolding Window.cleared Ratio.cached Ratio.validOrMax Ratio.instantUpperBound Ratio.reported Ratio.readable Ratio.window Ratio.instantLimit lossRatio eq lt ofBits
+unfolding Window.cleared Ratio.cached Ratio.validOrMax Ratio.instantUpperBound Ratio.averageReportedLossRatio Ratio.readable Ratio.window Ratio.instantLimit lossRatio eq lt ofBits
 no-ceiling n = refl
 
 -- cleared observations are tied to a history without pairs, of the same count
@@ -110,7 +110,7 @@ observed-held q id span h =
 -- ---- a report
 module _ (o : Observations) (h : History) (t : Tied o h) where
   running-tied : (q : PartialObservation) (p : Pair) (packets time : ℕ) → pairOf q ≡ p → q .«num_packets» ≡ packets → Part p → Tied (Window.withPartial o q (Exact time)) (running h p packets time)
-  unfolding Window.withPartial running Ratio.instantUpperBound Ratio.reported
+  unfolding Window.withPartial running Ratio.instantUpperBound Ratio.averageReportedLossRatio
   running-tied q p packets time same counted part = record {
     count = t .count;
     slots = t .slots;
@@ -124,7 +124,7 @@ module _ (o : Observations) (h : History) (t : Tied o h) where
 
   pub completed-tied : (new : Observation) (p : Pair) (sent : ℕ) → new .id ≡ o .«num_observations» → held new ≡ some (o .«num_observations», p) → p .bytes ≤ 10 ^ 12 → Part p
       → Tied (Window.withCeiling (Window.stored o new (Exact sent)) (Ratio.instantUpperBound (Window.stored o new (Exact sent)) .rate)) (completed h p sent)
-  unfolding Window.withCeiling Window.stored completed Ratio.instantUpperBound Ratio.reported Ratio.cached
+  unfolding Window.withCeiling Window.stored completed Ratio.instantUpperBound Ratio.averageReportedLossRatio Ratio.cached
   completed-tied new p sent id holds room part = record {
     count = rw (t .count);
     slots = rw (map-set held (o .observations) (new .id % 15) new, holds, id, t .slots, t .count) (slots-turn (h .count) p (h .pairs));
@@ -157,11 +157,11 @@ module _ (o : Observations) (h : History) (t : Tied o h) where
         (ap pairOf (u .0) ∙ pair-is p (omega (arith, t .bytes)) (omega (arith, t .lost)), omega (arith, u .1, t .bytes), ap (λ (q : PartialObservation). q .«num_packets») (u .0) ∙ rw (t .packets))
 
     -- a report that is not refused leaves observations that are tied to the history that has heard it
-    pub added-tied : Window.added o s .refusal ≡ 0 → Tied (Window.added o s .observations) (reported h p (h .packets + s .«num_packets») (heldOr (h .time) (s .«last_send_time»)) (s .«last_send_time»))
+    pub added-tied : (s .«num_packets» ≡ 0 → ⊥) → Window.added o s .refusal ≡ 0 → Tied (Window.added o s .observations) (reported h p (h .packets + s .«num_packets») (heldOr (h .time) (s .«last_send_time»)) (s .«last_send_time»))
     unfolding reported
-    added-tied =
+    added-tied there =
         let sent = s .«last_send_time» in
-        added-by o s (λ (a : AddedAnswer). a .refusal ≡ 0 → Tied (a .observations) (reported h p counted (heldOr (h .time) sent) sent)) (λ r n z. absurd (n z))
+        added-by o s (λ (a : AddedAnswer). a .refusal ≡ 0 → Tied (a .observations) (reported h p counted (heldOr (h .time) sent) sent)) (λ n z. absurd (there n)) (λ r n z. absurd (n z))
         (λ u c n z. let q = sums-are u in let new = observed-held (sums o s .partial) (o .«num_observations») (span o s) n in
         rw (sym (completes-is sent) ∙ c) (completed-tied _ p sent (new .0) (rw (q .0) at (new .1)) (q .1) part))
         (λ u c z. let q = sums-are u in

@@ -17,7 +17,7 @@ use Rattle.bandwidth.specs.declared.RateAnswer.{RateAnswer}
 use Rattle.config.specs.Config as Config
 use Rattle.rounding.specs.Exact.{Measured, exactWeight, exactSum, exactTotal, AllSound, Close, Capped}
 use Rattle.rounding.specs.Plain.{plain}
-use Rattle.rounding.specs.Ratio.{highLoss, lossRatio, lossCeiling}
+use Rattle.rounding.specs.Ratio.{lossRatio, lossCeiling}
 use Rattle.rounding.proofs.Ratio.{ratio-not-above-one}
 use Rattle.rounding.proofs.AnyOrder.{sound-perm, length-perm, close-any-order, ceiling-any-order}
 use Rattle.observation.specs.Ratio as Ratio
@@ -72,12 +72,12 @@ module _ (o : Observations) (h : History) (t : Tied o h) where
   tied-readable = slots-readable (h .count) (h .pairs) (o .observations) (t .slots) (t .kept .counted) (t .kept .few) (t .kept .within)
 
   -- so the ratio is not refused
-  pub tied-reported : Ratio.reported o ≡ answered (lossRatio read)
-  unfolding Ratio.reported
+  pub tied-reported : Ratio.averageReportedLossRatio o ≡ answered (lossRatio read)
+  unfolding Ratio.averageReportedLossRatio
   tied-reported = rw tied-readable
 
   -- nor is it above 1.0
-  tied-not-above-one : lt highLoss (lossRatio read) ≡ false
+  tied-not-above-one : lt Config.«high_loss_rate_threshold» (lossRatio read) ≡ false
   tied-not-above-one = ratio-not-above-one read (sound-perm any-order sound) (rw (length-perm any-order) short)
 
   -- so the ceiling is not refused
@@ -91,14 +91,14 @@ module _ (o : Observations) (h : History) (t : Tied o h) where
     tied-counted = omega (arith, some-pair (h .pairs) some, t .count, t .kept .counted)
 
     -- the ratio is within r/2^46 of the history's r
-    pub tied-ratio : (Ratio.reported o .refusal ≡ 0) × Close (Ratio.reported o .value) (weighedLost h) (weighedBytes h)
+    pub tied-ratio : (Ratio.averageReportedLossRatio o .refusal ≡ 0) × Close (Ratio.averageReportedLossRatio o .value) (weighedLost h) (weighedBytes h)
     tied-ratio = rw tied-reported (refl, close-any-order read (window h) any-order sound short (aged-some 0 (h .pairs) some))
 
     -- where r is at least 0.06, the ceiling is that of the ratio, within one part in 2^40 of the history's
     pub tied-ceiling : 6 * weighedBytes h ≤ 100 * weighedLost h
-        → (Ratio.cached (o .«cached_instant_upper_bound») ≡ Rate.rate (lossCeiling (Ratio.reported o .value))) × Capped (lossCeiling (Ratio.reported o .value)) (weighedLost h) (weighedBytes h)
+        → (Ratio.cached (o .«cached_instant_upper_bound») ≡ Rate.rate (lossCeiling (Ratio.averageReportedLossRatio o .value))) × Capped (lossCeiling (Ratio.averageReportedLossRatio o .value)) (weighedLost h) (weighedBytes h)
     unfolding Ratio.instantUpperBound Ratio.validOrMax
     tied-ceiling six =
         let sets = ceiling-any-order read (window h) any-order sound short (aged-some 0 (h .pairs) some) six in
-        let limit = limit-is-ceiling (lossRatio read) (sets .taken) tied-not-above-one (sets .divisor) in
+        let limit = limit-is-ceiling (lossRatio read) (sets .taken) tied-not-above-one in
         rw tied-reported (t .ceiling ∙ rw (tied-reported, limit, plain-finite (lossCeiling (lossRatio read)) (sets .capped .plainly)), sets .capped)

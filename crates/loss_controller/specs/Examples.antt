@@ -36,7 +36,7 @@ use Rattle.integer.specs.Fitted as Fitted
 use Rattle.duration.specs.Seconds as Seconds
 use Rattle.rounding.specs.Ratio as Loss
 use Rattle.float.specs.Answer as Answer
-use Rattle.packets.specs.Summary.{columnsRefusal, packets, packetRefusal, addPacket, summaryOf}
+use Rattle.packets.specs.Summary.{columnsRefusal, packets, packetRefusal, addPacket, summaryOf, isOfReport}
 use Rattle.observation.specs.Window as Window
 use Rattle.estimator.specs.State.{number}
 use Rattle.loss_controller.specs.Controller.{initial, answered, refused, withObservations, withEstimator, withInputs}
@@ -112,6 +112,22 @@ order :
 unfolding Report.updateBandwidthEstimate Setters.rateRefusal columnsRefusal packets packetRefusal addPacket summaryOf signBit lt ofBits toBits
 order = (refl, refl, refl, refl, refl)
 
+-- by its totals: 5 for 5,000 packets and for more lost than sent, before 2 and 3; totals that a report has get 2, then 3, and are reported
+abbrev by-totals : ℕ → ℕ → ℕ → ℕ → ControllerAnswer
+by-totals packets lost time delay =
+    Report.updateWithSummary initial
+    (record { «num_packets» = packets; «num_lost_packets» = lost; «total_size» = 0; «lost_size» = 0; «last_send_time» = time }) (Rate.rate (bits delay))
+
+totals :
+    by-totals 5000 0 0 0x8000000000000000 ≡ refused initial 5
+    × by-totals 3 4 4000000000000000001 megabit ≡ refused initial 5
+    × by-totals 3 3 4000000000000000001 0x8000000000000000 ≡ refused initial 2
+    × by-totals 3 3 4000000000000000001 megabit ≡ refused initial 3
+    × by-totals 3 3 7 megabit ≡ report (7 ∷ 7 ∷ 0 ∷ []) (0 ∷ 0 ∷ 0 ∷ []) (1 ∷ 1 ∷ 1 ∷ []) megabit
+unfolding Report.updateBandwidthEstimate Report.updateWithSummary Setters.rateRefusal Setters.timeRefusal
+    columnsRefusal packets packetRefusal addPacket summaryOf isOfReport signBit lt ofBits toBits
+totals = (refl, refl, refl, refl, refl)
+
 -- an empty one stores the delay estimate and does no more
 empty : Report.updateBandwidthEstimate initial [] [] [] (Rate.rate (bits megabit)) ≡ answered (Report.withDelayBasedEstimate initial (Rate.rate (bits megabit)))
 unfolding Report.updateBandwidthEstimate Report.reported Setters.rateRefusal columnsRefusal packets summaryOf signBit lt ofBits toBits
@@ -122,12 +138,12 @@ empty = refl
 abbrev told : LossController
 told = Setters.setAcknowledgedBitrate (estimated 0x413E848000000000) (Rate.rate (bits 0x4136E36000000000)) .controller
 
-abbrev reported : LossController → List ℕ → List ℕ → List ℕ → LossController
-reported c times sizes flags = Report.updateBandwidthEstimate c times sizes flags (Rate.rate (bits 0x4146E36000000000)) .controller
+abbrev afterReport : LossController → List ℕ → List ℕ → List ℕ → LossController
+afterReport c times sizes flags = Report.updateBandwidthEstimate c times sizes flags (Rate.rate (bits 0x4146E36000000000)) .controller
 
 -- the state is Decreasing, and the ceiling is published
 decreasing :
-    line (reported (reported told (0 ∷ []) (1200 ∷ []) (0 ∷ [])) (300000000 ∷ 300000001 ∷ []) (60000 ∷ 9000 ∷ []) (0 ∷ 1 ∷ [])) ≡
+    line (afterReport (afterReport told (0 ∷ []) (1200 ∷ []) (0 ∷ [])) (300000000 ∷ 300000001 ∷ []) (60000 ∷ 9000 ∷ []) (0 ∷ 1 ∷ [])) ≡
     2 ∷ 4580551374841200862 ∷ 1 ∷ 4698242737114942079 ∷ []
-unfolding line Bias.adjusted Bias.bias Feasible.upperBound Feasible.feasible Newton.safe Newton.addDerivatives Newton.derivatives Newton.newton Objective.addTerms Objective.objective Probability.congested Probability.probability Ln.logarithmOfBits Ln.logarithm Power.powerSteps Power.power Power.weight Bound.atMost Bound.capacity Bound.inWindow Bound.acceleration Bound.upperBound Candidate.scaled Candidate.above Candidate.bandwidths Candidate.cut Candidate.candidate Candidate.placed Candidate.candidates Choice.judged Choice.better Choice.answered Choice.used Choice.choice Hold.twice Hold.doubled Hold.entered Increase.notIncreasedAboveInherentLoss Increase.isEstimateIncreasingWhenLossLimited Increase.rampupFactor Increase.withinRampup Increase.rampedUp Increase.increaseLimitedDueToLoss Increase.increaseLimited Update.withReductionNoted Update.isInHold Update.held Update.isLimiting Update.newState Update.newHoldInfo Update.withNewState Update.decided Update.updated Update.applied Recovery.windowEnd Recovery.isAboveLimit Recovery.bounded Recovery.isOver Recovery.opened Recovery.renewed Delta.difference Delta.inSeconds Delta.order Delta.rate Delta.larger Delta.plus Time.since Time.plus Time.order Nanos.fitted Ratio.age Ratio.window Ratio.readable Ratio.reported Ratio.instantLimit Ratio.instantUpperBound Ratio.validOrMax Ratio.cached Rows.rowOf Rows.row Rows.rows Window.cleared Window.reference Window.completes Window.full Window.observed Window.stored Window.withCeiling Window.withPartial Window.renewed Window.completed Window.added Partial.updated Rate.over Rate.smaller Rate.larger Rate.times Rate.plus Rate.minus Size.kilobytes Size.float Fitted.ordered Fitted.fitted Fitted.inI64 Seconds.seconds Seconds.nearestNanos Seconds.fromSeconds Loss.lossRatio Answer.clamped Report.bounds Report.report Report.updatedEstimator Report.hasValidEstimate Report.observed Report.withDelayBasedEstimate Report.reported Report.updateBandwidthEstimate Setters.rateRefusal Setters.setBandwidthEstimate Setters.setAcknowledgedBitrate columnsRefusal packets packetRefusal addPacket summaryOf withObservations withEstimator withInputs maximum minimum signBit add div eq inFloat isNan le lt mul ofBits ofInt sub toBits Rattle.float.specs.Rust.magnitude
+unfolding line Bias.adjusted Bias.bias Feasible.upperBound Feasible.feasible Newton.safe Newton.addDerivatives Newton.derivatives Newton.newton Objective.addTerms Objective.objective Probability.congested Probability.probability Ln.logarithmOfBits Ln.logarithm Power.powerSteps Power.power Power.weight Bound.atMost Bound.capacity Bound.inWindow Bound.acceleration Bound.upperBound Candidate.scaled Candidate.above Candidate.bandwidths Candidate.cut Candidate.candidate Candidate.placed Candidate.candidates Choice.judged Choice.better Choice.answered Choice.used Choice.choice Hold.twice Hold.doubled Hold.entered Increase.notIncreasedAboveInherentLoss Increase.isEstimateIncreasingWhenLossLimited Increase.rampupFactor Increase.withinRampup Increase.rampedUp Increase.increaseLimitedDueToLoss Increase.increaseLimited Update.withReductionNoted Update.isInHold Update.held Update.isLimiting Update.newState Update.newHoldInfo Update.withNewState Update.decided Update.updated Update.applied Recovery.windowEnd Recovery.isAboveLimit Recovery.bounded Recovery.isOver Recovery.opened Recovery.renewed Delta.difference Delta.inSeconds Delta.order Delta.rate Delta.larger Delta.plus Time.since Time.plus Time.order Nanos.fitted Ratio.age Ratio.window Ratio.readable Ratio.averageReportedLossRatio Ratio.instantLimit Ratio.instantUpperBound Ratio.validOrMax Ratio.cached Rows.rowOf Rows.rows Window.cleared Window.reference Window.completes Window.full Window.observed Window.stored Window.withCeiling Window.withPartial Window.renewed Window.completed Window.added Partial.updated Rate.over Rate.smaller Rate.larger Rate.times Rate.plus Rate.minus Size.kilobytes Size.float Fitted.ordered Fitted.fitted Fitted.inI64 Seconds.seconds Seconds.nearestNanos Seconds.fromSeconds Loss.lossRatio Loss.lossCeiling Answer.clamped Report.bounds Report.report Report.updatedEstimator Report.hasValidEstimate Report.observed Report.withDelayBasedEstimate Report.reported Report.updateBandwidthEstimate Setters.rateRefusal Setters.setBandwidthEstimate Setters.setAcknowledgedBitrate columnsRefusal packets packetRefusal addPacket summaryOf withObservations withEstimator withInputs maximum minimum signBit add div eq inFloat isNan le lt mul ofBits ofInt sub toBits Rattle.float.specs.Rust.magnitude
 decreasing = refl

@@ -26,7 +26,7 @@ lossBasedResult c = record { «bandwidth_estimate» = published c; state = c .es
 
 -- "Two reads are added by design: the loss ratio and the count of completed observations."
 unfoldable pub averageReportedLossRatio : LossController → FloatAnswer
-averageReportedLossRatio c = Ratio.reported (c .observations)
+averageReportedLossRatio c = Ratio.averageReportedLossRatio (c .observations)
 
 abbrev pub numObservations : LossController → ℕ
 numObservations c = c .observations .«num_observations»

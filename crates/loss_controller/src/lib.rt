@@ -1,7 +1,6 @@
 // `LossController` of src/bwe/loss_controller.rs, its calls by value. A call that is refused hands
 // the controller back as it was.
 ghost use mathlib.Core.Path.{_≡_};
-ghost use Rattle.observation.specs.Ratio as Ratio;
 ghost use Rattle.loss_controller.specs.Controller as Controller;
 ghost use Rattle.loss_controller.specs.Setters as Setters;
 ghost use Rattle.loss_controller.specs.Report as Steps;
@@ -312,7 +311,7 @@ impl LossController {
         self.reported(summary.summary, delay_based_estimated)
     }
 
-    // The same, of packets that are summed up already.
+    // The same, of packets that are summed up already: 5 for totals that no report has.
     pub fn update_with_summary(
         self,
         summary: PacketResultsSummary,
@@ -320,6 +319,9 @@ impl LossController {
     ) -> ControllerAnswer
         ensures { λ r. ⌜ r ≡ Steps.updateWithSummary self summary «delay_based_estimated» ⌝ }
     {
+        if !summary.is_of_report() {
+            return self.refused(5);
+        }
         let refusal = rate_refusal(delay_based_estimated);
         if refusal != 0 {
             return self.refused(refusal);

@@ -1,4 +1,4 @@
--- What a report leaves in the observations: a refusal, an observation more, or running sums. Assumes nothing.
+-- What a report leaves in the observations: what was there, where it has no packets, a refusal, an observation more, or running sums. Assumes nothing.
 use Prim.Native.Nat.{ℕ}
 use mathlib.Core.Path.{_≡_}
 use mathlib.Core.Bool.{true, false}
@@ -30,8 +30,9 @@ module _ (o : Observations) (s : PacketResultsSummary) where
   abbrev pub stored : Observations
   stored = Window.stored o (Window.observed (sums .partial) (o .«num_observations») span .observation) (Exact (s .«last_send_time»))
 
-  -- what holds of each of the three holds of the answer
+  -- what holds of each of these holds of the answer
   pub added-by : (P : AddedAnswer → Type 0)
+      → (s .«num_packets» ≡ 0 → P (Window.unchanged o))
       → ((refusal : ℕ) → (refusal ≡ 0 → ⊥) → P (Window.refused o refusal))
       → (sums .refusal ≡ 0 → Window.completes span ≡ true → Window.observed (sums .partial) (o .«num_observations») span .refusal ≡ 0
       → P (record { observations = Window.withCeiling stored (Ratio.instantUpperBound stored .rate); completed = true; refusal = 0 }))
@@ -39,11 +40,12 @@ module _ (o : Observations) (s : PacketResultsSummary) where
       → P (record { observations = Window.withPartial o (sums .partial) from; completed = false; refusal = 0 }))
       → P (Window.added o s)
   unfolding Window.added Window.completed Window.renewed
-  added-by P refused more less =
+  added-by P idle refused more less =
       let new = Window.observed (sums .partial) (o .«num_observations») span .refusal in
       let ceiling = Ratio.instantUpperBound stored .refusal in
-      tested P (eqb (sums .refusal) 10) (λ e. refused 10 (λ z. omega arith))
+      checked P (s .«num_packets») idle
+      (λ there. tested P (eqb (sums .refusal) 10) (λ e. refused 10 (λ z. omega arith))
       (λ e. tested P (Window.full o span) (λ f. refused 11 (λ z. omega arith))
       (λ f. checked P (sums .refusal)
       (λ u. tested P (Window.completes span) (λ c. checked P new (λ n. checked P ceiling (λ r. more u c n) (refused ceiling)) (refused new)) (less u))
-      (refused (sums .refusal))))
+      (refused (sums .refusal)))))

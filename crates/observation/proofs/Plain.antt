@@ -6,8 +6,7 @@ use native.Mathlib.Omega.{arith}
 use borrow.Author.Tests.{ltb-true, ltb-false, lt-ltb, le-ltb}
 use lib.Dec.{ltb}
 use lib.IntN.{pos}
-use lib.Ieee.{Float, eq, lt}
-use Rattle.float.specs.Rounded.{_⊖_, bits}
+use lib.Ieee.{Float, lt}
 use Rattle.integer.specs.Fitted.{ordered}
 use Rattle.integer.specs.declared.Ordering.the-variants.{Less, Equal, Greater}
 use Rattle.bandwidth.specs.Rate as Rate
@@ -16,7 +15,8 @@ use Rattle.time.specs.Order.{isGt}
 use Rattle.time.specs.Time as Time
 use Rattle.time.specs.declared.TimeDelta.the-variants.{Negative, Positive}
 use Rattle.time.specs.declared.Timestamp.the-variants.{Exact}
-use Rattle.rounding.specs.Ratio.{highLoss, lossOffset, lossCeiling}
+use Rattle.config.specs.Config as Config
+use Rattle.rounding.specs.Ratio.{lossCeiling}
 use Rattle.observation.specs.Ratio.{instantLimit}
 use Rattle.observation.specs.Window.{completes}
 
@@ -45,8 +45,8 @@ completes-after last time = go (ltb last time) refl
         moved true k = lt-ltb 250000000 (last - time) (omega (arith, ltb-true (time + 250000000) last k))
         moved false k = le-ltb 250000000 (last - time) (omega (arith, ltb-false (time + 250000000) last k))
 
--- where its divisor is not 0.0, the ceiling of a ratio above 0.05, and not above 1.0, is `lossCeiling`
-pub limit-is-ceiling : (ratio : Float) → lt lossOffset ratio ≡ true → lt highLoss ratio ≡ false → eq (ratio ⊖ lossOffset) (bits 0) ≡ false
+-- the ceiling of a ratio above 0.05, and not above 1.0, is `lossCeiling`
+pub limit-is-ceiling : (ratio : Float) → lt Config.«instant_upper_bound_loss_offset» ratio ≡ true → lt Config.«high_loss_rate_threshold» ratio ≡ false
     → instantLimit ratio ≡ Rate.answered (Rate.rate (lossCeiling ratio))
-unfolding instantLimit lossCeiling Rate.over
-limit-is-ceiling ratio h k d = rw (h, k, d)
+unfolding instantLimit
+limit-is-ceiling ratio h k = rw (h, k)

@@ -9,7 +9,8 @@ use lib.ListN.{length, getD, take, drop, set, length-map, List·getD-map, drop-o
 use lib.Seq.{drop-cons, take-suc, take-suc-set, take-all}
 use Rattle.float.proofs.Refusal.{accepted, declined}
 use Rattle.observation.specs.Ratio.{legible, readable}
-use Rattle.observation.specs.Rows.{rowOf, row}
+use Rattle.observation.specs.Rows.{rowOf}
+use Rattle.observation.specs.Steps.{row}
 use Rattle.observation.specs.declared.Observation.{Observation}
 use Rattle.observation.specs.declared.RowAnswer.{RowAnswer}
 

@@ -59,7 +59,7 @@ pub added-sent : (o : Observations) (s : PacketResultsSummary) → AllSent o →
 unfolding Window.stored Window.withCeiling Window.withPartial
 added-sent o s h =
     let new = Window.observed (sums o s .partial) (o .«num_observations») (span o s) .observation in
-    added-by o s (λ (a : AddedAnswer). AllSent (a .observations)) (λ r n. h) (λ u c n. each-set _ new (observed-sent _ _ (span o s)) h) (λ u c. h)
+    added-by o s (λ (a : AddedAnswer). AllSent (a .observations)) (λ n. h) (λ r n. h) (λ u c n. each-set _ new (observed-sent _ _ (span o s)) h) (λ u c. h)
 
 -- ---- the rows
 

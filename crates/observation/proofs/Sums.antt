@@ -10,7 +10,8 @@ use Rattle.float.specs.Answer.{answered, refused}
 use Rattle.float.proofs.Refusal.{accepted, declined}
 use Rattle.rounding.specs.Exact.{Measured}
 use Rattle.rounding.specs.Ratio.{addWeighted, floatTotal, floatLost, lossRatio}
-use Rattle.observation.specs.Ratio.{measured, window, floats, readable, reported, sums, noSums, refusedSums, summed}
+use Rattle.observation.specs.Ratio.{measured, window, floats, readable, averageReportedLossRatio}
+use Rattle.observation.specs.Steps.{sums, noSums, refusedSums, summed}
 use Rattle.observation.specs.declared.Observation.{Observation}
 use Rattle.observation.specs.declared.Observations.{Observations}
 use Rattle.observation.specs.declared.LossSums.{LossSums}
@@ -63,11 +64,11 @@ module _ (o : Observations) {s : LossSums} (e : s ≡ foldl (summed (o .«num_ob
   unfolding os
   read h = rw (all-read h) at told
 
-  pub ratio-refused : (s .refusal ≡ 0 → ⊥) → reported o ≡ refused
-  unfolding reported os
+  pub ratio-refused : (s .refusal ≡ 0 → ⊥) → averageReportedLossRatio o ≡ refused
+  unfolding averageReportedLossRatio os
   ratio-refused h =
       rw (declined (λ (x : LossSums). x .refusal) (sums (floatTotal os) (floatLost os)) refusedSums (readable (o .observations)) refl (rw told at h))
 
-  pub ratio-is : s .refusal ≡ 0 → reported o ≡ answered (cond (eq (s .total) (bits 0)) (bits 0) (s .lost ⊘ s .total))
-  unfolding reported lossRatio os
+  pub ratio-is : s .refusal ≡ 0 → averageReportedLossRatio o ≡ answered (cond (eq (s .total) (bits 0)) (bits 0) (s .lost ⊘ s .total))
+  unfolding averageReportedLossRatio lossRatio os
   ratio-is h = rw (all-read h, read h)

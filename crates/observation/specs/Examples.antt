@@ -15,12 +15,12 @@ use Rattle.time.specs.Delta as Delta
 use Rattle.time.specs.Time as Time
 use Rattle.time.specs.declared.Timestamp.the-variants.{Exact}
 use Rattle.logarithm.specs.Power.{weight}
-use Rattle.rounding.specs.Ratio.{lossRatio}
+use Rattle.rounding.specs.Ratio.{lossRatio, lossCeiling}
 use Rattle.packets.specs.declared.PacketResultsSummary.{PacketResultsSummary}
 use Rattle.likelihood.specs.declared.Row.{Row}
 use Rattle.observation.specs.Partial as Partial
-use Rattle.observation.specs.Ratio.{age, window, readable, reported, highLossLimit, instantLimit, instantUpperBound, validOrMax, cached}
-use Rattle.observation.specs.Window.{dummy, cleared, reference, completes, full, observed, stored, withCeiling, withPartial, renewed, completed, added}
+use Rattle.observation.specs.Ratio.{age, window, readable, averageReportedLossRatio, highLossLimit, instantLimit, instantUpperBound, validOrMax, cached}
+use Rattle.observation.specs.Window.{dummy, cleared, reference, completes, full, observed, stored, withCeiling, withPartial, renewed, completed, unchanged, added}
 use Rattle.observation.specs.Rows.{rowOf}
 use Rattle.observation.specs.declared.Observation.{Observation}
 use Rattle.observation.specs.declared.Observations.{Observations}
@@ -56,8 +56,15 @@ three-reports : three .«num_observations» ≡ 2
     × three .«last_send_time_most_recent_observation» ≡ Exact 1500000006
     × three .«partial_observation» ≡ Partial.none
     × toBits binary64 (cached (three .«cached_instant_upper_bound») .bps) ≡ 0x4132EAF2B8C0337F
-unfolding add div eq inFloat lt mul ofBits ofInt sub toBits seconds ordered Rate.over Delta.difference Delta.inSeconds Delta.order Delta.rate Time.since weight lossRatio Partial.updated age window readable reported instantLimit instantUpperBound validOrMax cached cleared reference completes full observed stored withCeiling withPartial renewed completed added
+unfolding add div eq inFloat lt mul ofBits ofInt sub toBits seconds ordered Rate.over Delta.difference Delta.inSeconds Delta.order Delta.rate Time.since weight lossRatio Partial.updated age window readable averageReportedLossRatio lossCeiling instantLimit instantUpperBound validOrMax cached cleared reference completes full observed stored withCeiling withPartial renewed completed added
 three-reports = (refl, refl, refl, refl)
+
+-- a summary of no packets changes nothing, whatever else it says: neither the reference time where there is none yet, nor the running sums, nor the count
+no-packets : added (cleared 3) (report 0 0 0 0 0) ≡ unchanged (cleared 3)
+    × added three (report 0 0 0 0 4000000000) ≡ unchanged three
+    × added three (report 0 1 1000000000001 9 4000000000) ≡ unchanged three
+unfolding added
+no-packets = (refl, refl, refl)
 
 -- ---- a full window after seventeen observations, the newest in slot 1
 
@@ -103,12 +110,12 @@ later =
       «cached_instant_upper_bound» = None;
     }
 
-ratio-example : toBits binary64 (reported later .value) ≡ 0x3FC7389E3ABEBC38
-unfolding slots add div eq inFloat mul ofBits ofInt toBits weight lossRatio age window readable reported
+ratio-example : toBits binary64 (averageReportedLossRatio later .value) ≡ 0x3FC7389E3ABEBC38
+unfolding slots add div eq inFloat mul ofBits ofInt toBits weight lossRatio age window readable averageReportedLossRatio
 ratio-example = refl
 
 ceiling-example : toBits binary64 (instantUpperBound later .rate .bps) ≡ 0x412738E4443DA647
-unfolding slots add div eq inFloat lt mul ofBits ofInt sub toBits Rate.over weight lossRatio age window readable reported instantLimit instantUpperBound
+unfolding slots add div eq inFloat lt mul ofBits ofInt sub toBits Rate.over weight lossRatio age window readable averageReportedLossRatio lossCeiling instantLimit instantUpperBound
 ceiling-example = refl
 
 -- ---- the rows of slots 0, 1 and 2, whose ages are 1, 0 and 14: weight, lost, received and total
@@ -132,5 +139,5 @@ unreadable = (refl, refl, refl)
 limit-examples :
     map (λ b. instantLimit (bits b)) (0x3FA999999999999A ∷ 0x7FF8000000000000 ∷ 0x3FF0000000000000 ∷ 0x3FF0000000000001 ∷ []) ≡
     Rate.answered (Rate.rate (inf false)) ∷ Rate.answered (Rate.rate (inf false)) ∷ Rate.answered (Rate.rate (bits 0x40F9B2F286BCA1AF)) ∷ Rate.refused ∷ []
-unfolding instantLimit highLossLimit Rate.over Rate.minus Rate.times add div eq le lt mul ofBits sub
+unfolding lossCeiling instantLimit highLossLimit Rate.over Rate.minus Rate.times add div eq le lt mul ofBits sub
 limit-examples = refl

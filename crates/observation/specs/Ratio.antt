@@ -1,25 +1,24 @@
 -- The loss ratio of the window, and the ceiling that it sets. Definitions only.
 use Prim.Native.Nat.{ℕ, _-_}
-use mathlib.Core.Bool.{Bool, true, false, cond, _&&_}
+use mathlib.Core.Bool.{Bool, true, cond, _&&_}
 use mathlib.Core.List.{List, [], _∷_}
 use lib.Dec.{eqb, ltb}
 use lib.IntN.{pos}
-use lib.Ieee.{Float, binary64, inFloat, inf, lt}
+use lib.Ieee.{Float, lt}
 use lib.Ieee.Scale.{finite}
-use Rattle.float.specs.Rounded.{_⊖_, bits}
 use Rattle.float.specs.Answer.{answered, refused}
 use Rattle.float.specs.declared.FloatAnswer.{FloatAnswer}
 use Rattle.bandwidth.specs.Rate as Rate
+use Rattle.bandwidth.specs.Size as Size
 use Rattle.bandwidth.specs.declared.Bitrate.{Bitrate}
 use Rattle.bandwidth.specs.declared.RateAnswer.{RateAnswer}
 use Rattle.bandwidth.specs.declared.OptionBitrate.{OptionBitrate}
 use Rattle.bandwidth.specs.declared.OptionBitrate.the-variants.{Some, None}
 use Rattle.config.specs.Config as Config
 use Rattle.rounding.specs.Exact.{Measured}
-use Rattle.rounding.specs.Ratio.{addWeighted, lossRatio}
+use Rattle.rounding.specs.Ratio.{lossRatio, lossCeiling}
 use Rattle.observation.specs.declared.Observation.{Observation}
 use Rattle.observation.specs.declared.Observations.{Observations}
-use Rattle.observation.specs.declared.LossSums.{LossSums}
 
 -- ---- the window as the ratio sees it
 
@@ -38,7 +37,7 @@ window count (o ∷ os) = cond (o .«is_initialized») (measured count o ∷ win
 
 -- "a size beyond 2^53 in magnitude going to a float" is refused: whether both of an observation go
 abbrev pub floats : Observation → Bool
-floats o = inFloat binary64 (pos (o .size)) && inFloat binary64 (pos (o .«lost_size»))
+floats o = Size.inFloatRange (pos (o .size)) && Size.inFloatRange (pos (o .«lost_size»))
 
 -- those of a slot, where it is initialised, and those of every such slot
 abbrev pub legible : Observation → Bool
@@ -50,29 +49,9 @@ readable (o ∷ os) = legible o && readable os
 
 -- ---- average_reported_loss_ratio
 
-unfoldable pub reported : Observations → FloatAnswer
-reported o = cond (readable (o .observations)) (answered (lossRatio (window (o .«num_observations») (o .observations)))) refused
-
--- the two sums of its loop
-abbrev pub sums : Float → Float → LossSums
-sums total lost = record { total = total; lost = lost; refusal = 0 }
-
-abbrev pub noSums : LossSums
-noSums = sums (bits 0) (bits 0)
-
-abbrev pub refusedSums : LossSums
-refusedSums = record { total = bits 0; lost = bits 0; refusal = 7 }
-
--- one slot more; the first refusal stays
-unfoldable pub summed : ℕ → LossSums → Observation → LossSums
-summed count s o =
-    cond (eqb (s .refusal) 0)
-    (cond (o .«is_initialized»)
-    (cond (floats o)
-    (sums (addWeighted (λ (m : Measured). m .total) (s .total) (measured count o)) (addWeighted (λ (m : Measured). m .lost) (s .lost) (measured count o)))
-    refusedSums)
-    s)
-    s
+unfoldable pub averageReportedLossRatio : Observations → FloatAnswer
+averageReportedLossRatio o =
+    cond (readable (o .observations)) (answered (lossRatio (window (o .«num_observations») (o .observations)))) refused
 
 -- ---- calculate_instant_upper_bound
 
@@ -82,23 +61,23 @@ highLossLimit ratio =
     let limit = Rate.minus Config.«bandwidth_cap_at_high_loss_rate» (Rate.times Config.«slope_of_bwe_high_loss_function» ratio) in
     cond (eqb (limit .refusal) 0) (Rate.answered (Rate.larger (limit .rate) Config.«min_bitrate»)) Rate.refused
 
--- infinite; above 0.05, 100 kbps / (ratio - 0.05), so that "a ratio equal to 0.05 sets no ceiling"
+-- the maximum rate; above 0.05, 100 kbps / (ratio - 0.05), so that "a ratio equal to 0.05 sets no ceiling"
 unfoldable pub instantLimit : Float → RateAnswer
 instantLimit ratio =
     cond (lt Config.«instant_upper_bound_loss_offset» ratio)
     (cond (lt Config.«high_loss_rate_threshold» ratio) (highLossLimit ratio)
-    (Rate.answered (Rate.over Config.«instant_upper_bound_bandwidth_balance» (ratio ⊖ Config.«instant_upper_bound_loss_offset»))))
-    (Rate.answered (Rate.rate (inf false)))
+    (Rate.answered (Rate.rate (lossCeiling ratio))))
+    (Rate.answered Config.«max_bitrate»)
 
 unfoldable pub instantUpperBound : Observations → RateAnswer
-instantUpperBound o = let ratio = reported o in cond (eqb (ratio .refusal) 0) (instantLimit (ratio .value)) Rate.refused
+instantUpperBound o = let ratio = averageReportedLossRatio o in cond (eqb (ratio .refusal) 0) (instantLimit (ratio .value)) Rate.refused
 
 -- ---- get_instant_upper_bound
 
 -- the maximum, which is infinite, where a rate is not valid
 unfoldable pub validOrMax : Bitrate → Bitrate
-validOrMax r = cond (finite (r .bps)) r (Rate.rate (inf false))
+validOrMax r = cond (finite (r .bps)) r Config.«max_bitrate»
 
 unfoldable pub cached : OptionBitrate → Bitrate
 cached (Some r) = validOrMax r
-cached None = Rate.rate (inf false)
+cached None = Config.«max_bitrate»

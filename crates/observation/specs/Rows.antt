@@ -11,10 +11,9 @@ use Rattle.bandwidth.specs.Size as Size
 use Rattle.config.specs.Config as Config
 use Rattle.logarithm.specs.Power.{weight}
 use Rattle.likelihood.specs.declared.Row.{Row}
-use Rattle.observation.specs.Ratio.{age, legible, readable}
+use Rattle.observation.specs.Ratio.{age, readable}
 use Rattle.observation.specs.declared.Observation.{Observation}
 use Rattle.observation.specs.declared.Observations.{Observations}
-use Rattle.observation.specs.declared.RowAnswer.{RowAnswer}
 use Rattle.observation.specs.declared.RowsAnswer.{RowsAnswer}
 
 -- the row of an empty slot
@@ -38,11 +37,6 @@ rowOf count o =
       «sending_rate» = o .«sending_rate»;
     })
     emptyRow
-
--- refused where an initialised slot has a size that goes to no float
-unfoldable pub row : ℕ → Observation → RowAnswer
-row count o =
-    cond (legible o) (record { row = rowOf count o; refusal = 0 }) (record { row = emptyRow; refusal = 7 })
 
 -- the rows in slot order, or empty ones beside 7
 unfoldable pub rows : Observations → RowsAnswer

@@ -11,10 +11,10 @@ use Rattle.bandwidth.specs.Rate as Rate
 use Rattle.time.specs.Delta as Delta
 use Rattle.time.specs.Time as Time
 use Rattle.logarithm.specs.Power.{weight}
-use Rattle.rounding.specs.Ratio.{lossRatio}
+use Rattle.rounding.specs.Ratio.{lossRatio, lossCeiling}
 use Rattle.packets.specs.declared.PacketResultsSummary.{PacketResultsSummary}
 use Rattle.observation.specs.Partial.{updated}
-use Rattle.observation.specs.Ratio.{age, window, readable, reported, instantLimit, instantUpperBound, validOrMax, cached}
+use Rattle.observation.specs.Ratio.{age, window, readable, averageReportedLossRatio, instantLimit, instantUpperBound, validOrMax, cached}
 use Rattle.observation.specs.Window.{cleared, reference, completes, full, observed, stored, withCeiling, withPartial, renewed, completed, added}
 use Rattle.observation.specs.declared.AddedAnswer.{AddedAnswer}
 
@@ -38,5 +38,5 @@ starred =
     (claim (ceiling (after 250000001 100)) 0x413E848000000000 none)))
 
 pub starred-hold : Hold starred
-unfolding add div eq inFloat lt mul ofBits ofInt sub toBits seconds ordered Rate.over Delta.difference Delta.inSeconds Delta.order Delta.rate Time.since weight lossRatio updated age window readable reported instantLimit instantUpperBound validOrMax cached cleared reference completes full observed stored withCeiling withPartial renewed completed added
+unfolding add div eq inFloat lt mul ofBits ofInt sub toBits seconds ordered Rate.over Delta.difference Delta.inSeconds Delta.order Delta.rate Time.since weight lossRatio updated age window readable averageReportedLossRatio lossCeiling instantLimit instantUpperBound validOrMax cached cleared reference completes full observed stored withCeiling withPartial renewed completed added
 starred-hold = (refl, (refl, (refl, (refl, tt))))

@@ -11,6 +11,7 @@ ghost use Rattle.observation.specs.Partial as Partial;
 ghost use Rattle.observation.specs.Window as Window;
 ghost use Rattle.observation.specs.Ratio as Ratio;
 ghost use Rattle.observation.specs.Rows as Rows;
+ghost use Rattle.observation.specs.Steps as Steps;
 use bandwidth::Bitrate;
 use bandwidth::DataSize;
 use bandwidth::OptionBitrate;
@@ -261,11 +262,18 @@ impl Observations {
         cleared(self.num_observations)
     }
 
-    // After the report's summary; called for a report with packets. The refusals come in the order
-    // 10, 11, 7.
+    // After the report's summary, which is the Rust's None where there are no packets. The refusals
+    // come in the order 10, 11, 7.
     pub fn maybe_add_observation(self, summary: PacketResultsSummary) -> AddedAnswer
         ensures { λ r. ⌜ r ≡ Window.added self summary ⌝ }
     {
+        if summary.num_packets == 0 {
+            return AddedAnswer {
+                observations: self,
+                completed: false,
+                refusal: 0,
+            };
+        }
         let last_send_time = Timestamp::from_instant(summary.last_send_time);
         let partial = self.partial_observation;
         let updated = partial.update(summary);
@@ -453,7 +461,7 @@ impl LossSums {
 
     // One slot more. The first refusal stays.
     fn add(self, observation: Observation, num_observations: u64) -> LossSums
-        ensures { λ r. ⌜ r ≡ Ratio.summed «num_observations» self observation ⌝ }
+        ensures { λ r. ⌜ r ≡ Steps.summed «num_observations» self observation ⌝ }
     {
         let before = self.refusal;
         if before != 0 {
@@ -484,7 +492,7 @@ impl LossSums {
 impl Observations {
     // 0.0 where nothing was sent, and 7 where a size goes to no float.
     pub fn average_reported_loss_ratio(self) -> FloatAnswer
-        ensures { λ r. ⌜ r ≡ Ratio.reported self ⌝ }
+        ensures { λ r. ⌜ r ≡ Ratio.averageReportedLossRatio self ⌝ }
     {
         let sums = self.loss_sums();
         let refusal = sums.refusal;
@@ -506,7 +514,7 @@ impl Observations {
 
     // In slot order.
     fn loss_sums(self) -> LossSums
-        ensures { λ r. ⌜ r ≡ foldl (Ratio.summed (self .«num_observations»)) Ratio.noSums (self .observations) ⌝ }
+        ensures { λ r. ⌜ r ≡ foldl (Steps.summed (self .«num_observations»)) Steps.noSums (self .observations) ⌝ }
     {
         let observations = self.observations;
         let num_observations = self.num_observations;
@@ -643,7 +651,7 @@ impl Observation {
     // Its row when so many observations are complete; an empty one where the slot is. 7 where a
     // size goes to no float.
     fn row(self, num_observations: u64) -> RowAnswer
-        ensures { λ r. ⌜ r ≡ Rows.row «num_observations» self ⌝ }
+        ensures { λ r. ⌜ r ≡ Steps.row «num_observations» self ⌝ }
     {
         if !self.is_initialized {
             return RowAnswer::EMPTY;

@@ -11,8 +11,10 @@ use lib.ListN.{length}
 use lib.Ieee.{Float, eq, lt, ofBits}
 use lib.Ieee.Positive.{num, den, den-pos}
 use Rattle.float.specs.Rounded.{_⊖_, bits}
+use Rattle.bandwidth.specs.Rate as Rate
+use Rattle.config.specs.Config as Config
 use Rattle.rounding.specs.Exact.{Measured, exactTotal, exactLost, AllSound, ceilingPart, UnderCeiling, Capped}
-use Rattle.rounding.specs.Ratio.{lossOffset, bandwidthBalance, lossRatio, lossCeiling}
+use Rattle.rounding.specs.Ratio.{lossRatio, lossCeiling}
 use Rattle.rounding.proofs.Parts.{within-share}
 use Rattle.rounding.proofs.Round.{Near, ranged}
 use Rattle.rounding.proofs.Operations.{eq-zero}
@@ -20,22 +22,24 @@ use Rattle.rounding.proofs.Near.{near-more, near-terms, near-pos, near-
 use Rattle.rounding.proofs.Order.{Under}
 use Rattle.rounding.proofs.Ratio.{lost-part, total-bounded, ratio-near}
 
+abbrev lossOffset : Float
+lossOffset = Config.«instant_upper_bound_loss_offset»
+
 offset-near : Near 1 lossOffset 1 20
 unfolding ofBits near-test
 offset-near = near-of-test 1 lossOffset 1 20 tt
 
-balance-near : Near 0 bandwidthBalance 100000 1
+balance-near : Near 0 (Config.«instant_upper_bound_bandwidth_balance» .bps) 100000 1
 unfolding ofBits
-balance-near = near-exact bandwidthBalance 100000 1 (refl, refl) (lit< tt)
+balance-near = near-exact _ 100000 1 (refl, refl) (lit< tt)
 
 -- r is 6 times r - 1/20 at most: 47 parts of it are less than 1 / 2 ^ 47, and 769 parts of the difference
 cancels : Cancels 47 6 (2 ^ 47) 769
 cancels = record { some = lit< tt; enough = lit≤ tt; shares = lit≤ tt; parts = lit≤ tt; few = lit≤ tt }
 
--- What a ratio x near l / t sets: the branch for a ratio above 0.05 is taken, its divisor is not 0.0, and its quotient is within one part in 2^40 of the exact ceiling
+-- What a ratio x near l / t sets: the branch for a ratio above 0.05 is taken, and its rate is within one part in 2^40 of the exact ceiling
 pub record SetsCeiling (x : Float) (l t : ℕ) : Type 0 where
-  pub taken : lt lossOffset x ≡ true
-  pub divisor : eq (x ⊖ lossOffset) (bits 0) ≡ false
+  pub taken : lt Config.«instant_upper_bound_loss_offset» x ≡ true
   pub capped : Capped (lossCeiling x) l t
 
 -- ---- any float x that is 47 parts from l / t, for l / t from 0.06 to 1 and d = 20 l - t, of which 20 l is 6 times as much at most
@@ -60,22 +64,22 @@ module _ {x : Float} {l t : ℕ} (near : Near 47 x l t) (part : l ≤ t) (most :
 
   -- 771 of the 8191 parts that make one in 2 ^ 40
   ceiling-near : Near 771 (lossCeiling x) (100000 * (20 * t)) (d * 1)
-  unfolding lossCeiling
+  unfolding lossCeiling Rate.over
   ceiling-near =
+      let y = x ⊖ lossOffset in
+      let D : 0 < num y = near-pos (lit≤ tt) some difference-near in
+      let divisor : eq y (bits 0) ≡ false = rw (eq-zero y (difference-near .plainly)) (ne-eqb (num y) 0 (λ z. omega arith)) in
       let a : 100000 * (20 * t) ≤ 10 ^ 36 = omega arith in
       let b : d * 1 ≤ 10 ^ 30 = omega arith in
-      div-near (lit≤ tt) some (ranged (omega (arith, some)) (le-trans a (lit≤ tt)) (le-trans b (lit≤ tt))) balance-near difference-near
+      rw (divisor, lossCeiling, Rate.over) (div-near (lit≤ tt) some (ranged (omega (arith, some)) (le-trans a (lit≤ tt)) (le-trans b (lit≤ tt))) balance-near difference-near)
 
   sets-ceiling : SetsCeiling x l t
   sets-ceiling =
       let c = lossCeiling x in
       let s = within-share ceilingPart (lit< tt) (lit≤ tt) (ceiling-near .parts) in
       let m : num c * (d + t) ≡ num c * (20 * l) = rw e in
-      let y = x ⊖ lossOffset in
-      let D : 0 < num y = near-pos (lit≤ tt) some difference-near in
       record {
         taken = near-lt cancels d e fifth twenty twentieth some;
-        divisor = rw (eq-zero y (difference-near .plainly)) (ne-eqb (num y) 0 (λ z. omega arith));
         capped = record { plainly = ceiling-near .plainly; above = omega (arith, s .above); below = omega (arith, s .below) };
       }
 

@@ -68,11 +68,6 @@ pub within-one : {u v : ℕ} → (u * 2 ^ 53 ≤ v * (2 ^ 53 + 1)) × (v * 2 ^ 5
 unfolding lo hi
 within-one (h, l) = record { above = h; below = l }
 
--- no parts apart is equal
-pub within-none : {u v : ℕ} → Within 0 u v → u ≡ v
-unfolding lo hi
-within-none a = omega arith
-
 pub within-same : {k u v : ℕ} → u ≡ v → Within k u v
 within-same {k} {u} {v} e = let h : v * lo k ≤ v * hi k = mul-le-mul-left v (lo-le-hi k) in rw e (record { above = h; below = h })
 

@@ -12,8 +12,9 @@ use lib.ListN.{length}
 use lib.Ieee.{lt, ofBits}
 use lib.Ieee.Positive.{num}
 use Rattle.float.specs.Rounded.{_⊘_, bits}
+use Rattle.config.specs.Config as Config
 use Rattle.rounding.specs.Exact.{Measured, exactTotal, exactLost, AllSound, ratioPart, Close}
-use Rattle.rounding.specs.Ratio.{highLoss, floatTotal, floatLost, lossRatio}
+use Rattle.rounding.specs.Ratio.{floatTotal, floatLost, lossRatio}
 use Rattle.rounding.proofs.Parts.{within-share}
 use Rattle.rounding.proofs.Round.{Near, ranged}
 use Rattle.rounding.proofs.Operations.{eq-zero}
@@ -72,7 +73,7 @@ module _ (os : List Measured) (sound : AllSound os) (short : length os ≤ 15) w
         record { plainly = ratio-near .plainly; above = omega (arith, s .above); below = omega (arith, s .below) }
 
   -- the test `ratio > 1.0` fails, whatever the total
-  pub ratio-not-above-one : lt highLoss (lossRatio os) ≡ false
+  pub ratio-not-above-one : lt Config.«high_loss_rate_threshold» (lossRatio os) ≡ false
   ratio-not-above-one = elim (eq-zero-or-pos (exactTotal os)) [
     | inl none ↦ rw (ratio-none none) (unfold lt ofBits in refl)
     | inr some ↦ let p = ratio-near some .plainly in rw (ratio-is some) (under-not-lt (div-under-one (sums .order) (total-pos some) (rw (ratio-is some) at p)))

@@ -13,7 +13,7 @@ pub record Measured : Type 0 where
   pub total : ℕ
   pub lost : ℕ
 
--- "the weight of an age is 9^age × 10^(14 - age)"
+-- "the weight of an age is 9^age × 10^(14 - age)", of the ages 0 to 14 that a window has
 abbrev pub exactWeight : ℕ → ℕ
 exactWeight age = 9 ^ age * 10 ^ (14 - age)
 
@@ -27,16 +27,6 @@ exactTotal os = exactSum (λ (o : Measured). o .total) os
 
 abbrev pub exactLost : List Measured → ℕ
 exactLost os = exactSum (λ (o : Measured). o .lost) os
-
--- ---- which windows: ages below 15, totals up to 10^12 (code 10), and no more lost than there was
-pub record Sound (o : Measured) : Type 0 where
-  pub young : o .age < 15
-  pub bounded : o .total ≤ 10 ^ 12
-  pub part : o .lost ≤ o .total
-
-abbrev pub AllSound : List Measured → Type 0
-AllSound [] = Unit {0}
-AllSound (o ∷ os) = Sound o × AllSound os
 
 -- ---- how near. "A finite float is its whole significand times a power of two": x is num x / den x
 -- "within r/2^46 of r", and "by more than one part in 2^40"
@@ -52,11 +42,23 @@ pub record Close (x : Float) (l t : ℕ) : Type 0 where
   pub above : num x * t * ratioPart ≤ l * den x * ratioPart + l * den x
   pub below : l * den x * ratioPart ≤ num x * t * ratioPart + l * den x
 
--- x exceeds 100,000 / (r - 1/20), which is 2,000,000 t / (20 l - t), by no more than one part in `ceilingPart`
+-- a finite x with its sign clear exceeds 100,000 / (r - 1/20), which is 2,000,000 t / (20 l - t), by no more than one part in `ceilingPart`
 abbrev pub UnderCeiling : Float → ℕ → ℕ → Type 0
 UnderCeiling x l t = num x * (20 * l) * ceilingPart ≤ 2000000 * t * den x * (ceilingPart + 1) + num x * t * ceilingPart
 
--- nor falls below it by more
+-- ---- what follows serves proofs: no statement cites it
+
+-- the windows of which the laws speak: ages below 15, totals up to 10^12 (code 10), and no more lost than there was
+pub record Sound (o : Measured) : Type 0 where
+  pub young : o .age < 15
+  pub bounded : o .total ≤ 10 ^ 12
+  pub part : o .lost ≤ o .total
+
+abbrev pub AllSound : List Measured → Type 0
+AllSound [] = Unit {0}
+AllSound (o ∷ os) = Sound o × AllSound os
+
+-- x is under the ceiling so, and no more below it
 pub record Capped (x : Float) (l t : ℕ) : Type 0 where
   pub plainly : T (plain x)
   pub above : UnderCeiling x l t

@@ -4,20 +4,22 @@ use mathlib.Core.Path.{_≡_, refl}
 use mathlib.Core.Bool.{false}
 use mathlib.Core.List.{List, [], _∷_}
 use lib.Ieee.{add, binary64, div, eq, lt, mul, ofBits, ofInt, sub, toBits}
+use Rattle.bandwidth.specs.Rate as Rate
+use Rattle.config.specs.Config as Config
 use Rattle.logarithm.specs.Power.{weight}
 use Rattle.rounding.specs.Exact.{Measured}
-use Rattle.rounding.specs.Ratio.{lossOffset, lossRatio, lossCeiling}
+use Rattle.rounding.specs.Ratio.{lossRatio, lossCeiling}
 
 abbrev of-age : ℕ → ℕ → ℕ → Measured
 of-age age total lost = record { age = age; total = total; lost = lost }
 
 -- one observation: 50 of 1,000 lost sets no ceiling, 100 of 1,000 one of 2,000,000 bit/s
-no-ceiling : lt lossOffset (lossRatio (of-age 0 1000 50 ∷ [])) ≡ false
+no-ceiling : lt Config.«instant_upper_bound_loss_offset» (lossRatio (of-age 0 1000 50 ∷ [])) ≡ false
 unfolding lossRatio weight add div eq lt mul ofBits ofInt
 no-ceiling = refl
 
 two-million : toBits binary64 (lossCeiling (lossRatio (of-age 0 1000 100 ∷ []))) ≡ 0x413E848000000000
-unfolding lossRatio lossCeiling weight add div eq mul ofBits ofInt sub toBits
+unfolding lossRatio lossCeiling Rate.over weight add div eq mul ofBits ofInt sub toBits
 two-million = refl
 
 -- a full window in slot order, beside what another implementation of IEEE 754 gives
@@ -45,5 +47,5 @@ unfolding full lossRatio weight add div eq mul ofBits ofInt toBits
 full-ratio = refl
 
 full-ceiling : toBits binary64 (lossCeiling (lossRatio full)) ≡ 0x4137E0B7BD793C3F
-unfolding full lossRatio lossCeiling weight add div eq mul ofBits ofInt sub toBits
+unfolding full lossRatio lossCeiling Rate.over weight add div eq mul ofBits ofInt sub toBits
 full-ceiling = refl

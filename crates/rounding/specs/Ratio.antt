@@ -5,18 +5,10 @@ use mathlib.Core.List.{List, foldl}
 use lib.IntN.{pos}
 use lib.Ieee.{Float, binary64, eq, ofInt}
 use Rattle.float.specs.Rounded.{_⊕_, _⊖_, _⊗_, _⊘_, bits}
-use Rattle.config.specs.Config.{«high_loss_rate_threshold», «instant_upper_bound_loss_offset», «instant_upper_bound_bandwidth_balance»}
+use Rattle.bandwidth.specs.Rate as Rate
+use Rattle.config.specs.Config as Config
 use Rattle.logarithm.specs.Power.{weight}
 use Rattle.rounding.specs.Exact.{Measured}
-
-abbrev pub highLoss : Float
-highLoss = «high_loss_rate_threshold»
-
-abbrev pub lossOffset : Float
-lossOffset = «instant_upper_bound_loss_offset»
-
-abbrev pub bandwidthBalance : Float
-bandwidthBalance = «instant_upper_bound_bandwidth_balance» .bps
 
 -- ---- `average_reported_loss_ratio`
 -- total += weight * size
@@ -34,6 +26,7 @@ floatLost os = foldl (addWeighted (λ (o : Measured). o .lost)) (bits 0) os
 unfoldable pub lossRatio : List Measured → Float
 lossRatio os = cond (eq (floatTotal os) (bits 0)) (bits 0) (floatLost os ⊘ floatTotal os)
 
--- ---- `calculate_instant_upper_bound`: what a ratio above 0.05, and not above 1.0, sets
+-- ---- `calculate_instant_upper_bound`
+-- what a ratio above 0.05, and not above 1.0, sets, in bit/s
 unfoldable pub lossCeiling : Float → Float
-lossCeiling ratio = bandwidthBalance ⊘ (ratio ⊖ lossOffset)
+lossCeiling ratio = Rate.over Config.«instant_upper_bound_bandwidth_balance» (ratio ⊖ Config.«instant_upper_bound_loss_offset») .bps

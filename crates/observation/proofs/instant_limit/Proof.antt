@@ -1,5 +1,6 @@
 -- `observation::instant_limit` meets its contract. Assumes nothing.
 use borrow.Author.Needs.{needs}
+use Rattle.rounding.specs.Ratio.{lossCeiling}
 use Rattle.observation.specs.Ratio.{instantLimit}
 use Rattle.observation.proofs.instant_limit.Statement.{statement}
 use Rattle.observation.proofs.instant_limit.Tie as tie
@@ -15,7 +16,7 @@ div-f64-requires : tie.Need-div-f64-requires
 div-f64-requires c κs = search needs
 
 returns-2 : tie.Need-returns-2
-unfolding instantLimit
+unfolding instantLimit lossCeiling
 returns-2 c = rw (c .before .before .if1 .taken, c .before .if2 .left, ← c .div-f64 .ensures)
 
 infinity-requires : tie.Need-infinity-requires

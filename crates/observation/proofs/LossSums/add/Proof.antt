@@ -3,7 +3,7 @@ use borrow.Author.Needs.{needs}
 use borrow.Author.Tests.{eq-eqb, ne-eqb, not-true, not-false}
 use Rattle.bandwidth.proofs.Exact.{held, not-held}
 use Rattle.bandwidth.specs.Size.{float}
-use Rattle.observation.specs.Ratio.{summed}
+use Rattle.observation.specs.Steps.{summed}
 use Rattle.observation.proofs.LossSums.add.Statement.{statement}
 use Rattle.observation.proofs.LossSums.add.Tie as tie
 

@@ -1,7 +1,8 @@
 -- `observation::Observation::row` meets its contract. Assumes nothing.
 use borrow.Author.Needs.{needs}
 use borrow.Author.Tests.{not-true, not-false}
-use Rattle.observation.specs.Rows.{row, rowOf}
+use Rattle.observation.specs.Rows.{rowOf}
+use Rattle.observation.specs.Steps.{row}
 use Rattle.observation.proofs.Sizes.{kb-held, kb-not-held, held-small}
 use Rattle.observation.proofs.Observation.row.Statement.{statement}
 use Rattle.observation.proofs.Observation.row.Tie as tie

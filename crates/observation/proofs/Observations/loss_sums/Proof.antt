@@ -7,7 +7,7 @@ use native.Mathlib.Omega.{arith}
 use borrow.Author.Needs.{needs}
 use lib.ListN.{length, length-map, drop}
 use Rattle.float.proofs.Fold.{fold-again, fold-end}
-use Rattle.observation.specs.Ratio.{summed}
+use Rattle.observation.specs.Steps.{summed}
 use Rattle.observation.proofs.Observations.loss_sums.Statement.{statement}
 use Rattle.observation.proofs.Observations.loss_sums.Tie as tie
 
