@@ -20,4 +20,5 @@ pub mod Estimated
 pub mod Observed
 pub mod Reached
 pub mod Refusals
+pub mod Unrefused
 mod Sample

@@ -4,4 +4,5 @@ pub mod Window
 pub mod Run
 pub mod Demand
 pub mod Refusals
+pub mod Unrefused
 mod Examples
