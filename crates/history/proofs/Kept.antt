@@ -6,11 +6,9 @@ use mathlib.Core.List.{List, [], _∷_}
 use mathlib.Core.Option.{none}
 use native.Mathlib.Nat.{min-le-left, min-le-right}
 use native.Mathlib.Omega.{arith}
-use lib.Dec.{eqb}
 use lib.ListN.{length, take, length-take}
-use Rattle.float.proofs.Refusal.{either}
 use Rattle.rounding.specs.Exact.{AllSound}
-use Rattle.history.specs.History.{Pair, History, nothing, bytesOf, lostOf, completed, running}
+use Rattle.history.specs.History.{Pair, History, nothing, completed, running}
 use Rattle.history.specs.Window.{aged}
 
 -- no more lost than sent
@@ -27,15 +25,6 @@ pub record Kept (h : History) : Type 0 where
   pub counted : length (h .pairs) ≤ h .count
   pub within : Within (h .pairs)
   pub part : Part (h .running)
-
--- of a report's bytes no more are lost than sent
-pub lost-part : (sizes flags : List ℕ) → lostOf sizes flags ≤ bytesOf sizes
-unfolding lostOf bytesOf
-lost-part [] flags = omega arith
-lost-part (b ∷ bs) [] = omega arith
-lost-part (b ∷ bs) (flag ∷ flags) =
-    let rest = lost-part bs flags in
-    either (λ (lost : ℕ). lost + lostOf bs flags ≤ b + bytesOf bs) (eqb flag 1) b 0 (omega (arith, rest)) (omega (arith, rest))
 
 take-within : (n : ℕ) (ps : List Pair) → Within ps → Within (take n ps)
 take-within zero ps w = tt

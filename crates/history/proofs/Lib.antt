@@ -18,7 +18,9 @@ pub mod Chosen
 pub mod Sent
 pub mod Estimated
 pub mod Observed
+pub mod Limit
 pub mod Reached
 pub mod Refusals
 pub mod Unrefused
+pub mod EveryRate
 mod Sample

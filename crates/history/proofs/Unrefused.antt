@@ -1,8 +1,8 @@
 -- A refused call hands the controller back, whatever the controller; so a list of calls leaves and answers what it does without its refused calls.
 -- Assumes nothing.
 use Prim.Native.Nat.{ℕ}
-use mathlib.Core.Path.{_≡_, refl, sym, ap, _∙_, subst}
-use mathlib.Core.Bool.{Bool, true, false, cond, _&&_}
+use mathlib.Core.Path.{_≡_, refl, ap, _∙_, subst}
+use mathlib.Core.Bool.{Bool, true, false, _&&_}
 use mathlib.Core.List.{List, [], _∷_}
 use borrow.Author.Tests.{eqb-true, eqb-false}
 use lib.Dec.{eqb}
@@ -11,7 +11,7 @@ use Rattle.bandwidth.specs.declared.Bitrate.{Bitrate}
 use Rattle.packets.specs.Summary.{columnsRefusal, summaryOf}
 use Rattle.packets.specs.declared.PacketResultsSummary.{PacketResultsSummary}
 use Rattle.observation.specs.Window as Window
-use Rattle.loss_controller.specs.Controller.{answered, refused, checked}
+use Rattle.loss_controller.specs.Controller.{answered, checked}
 use Rattle.loss_controller.specs.Setters.{rateOf, rateRefusal, capacityRefusal, startRefusal, setBandwidthEstimate, setAcknowledgedBitrate, setLinkCapacityEstimate, setAlrStartTime}
 use Rattle.loss_controller.specs.Report as Report
 use Rattle.loss_controller.specs.declared.LossController.{LossController}

@@ -77,7 +77,7 @@ module _ (o : Observations) (h : History) (t : Tied o h) where
   tied-reported = rw tied-readable
 
   -- nor is it above 1.0
-  tied-not-above-one : lt highLoss (lossRatio read) ≡ false
+  pub tied-not-above-one : lt highLoss (lossRatio read) ≡ false
   tied-not-above-one = ratio-not-above-one read (sound-perm any-order sound) (rw (length-perm any-order) short)
 
   -- so the ceiling is not refused

@@ -1,5 +1,4 @@
 -- A refused call leaves no trace: the claim for any controller and any list of calls. Definitions only.
-use Prim.Native.Nat.{ℕ}
 use mathlib.Core.Path.{_≡_}
 use mathlib.Core.Bool.{Bool, cond}
 use mathlib.Core.List.{List, [], _∷_}
