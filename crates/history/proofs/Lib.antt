@@ -23,4 +23,5 @@ pub mod Reached
 pub mod Refusals
 pub mod Unrefused
 pub mod EveryRate
+mod Tested
 mod Sample
