@@ -17,7 +17,7 @@ use Rattle.observation.specs.Ratio.{cached}
 use Rattle.loss_controller.specs.Result.{published, lossBasedResult, averageReportedLossRatio}
 use Rattle.loss_controller.specs.declared.LossController.{LossController}
 use Rattle.history.specs.History.{History, after}
-use Rattle.history.specs.Window.{weighedLost, weighedBytes}
+use Rattle.history.specs.WeighedPairs.{weighedLost, weighedBytes}
 use Rattle.history.specs.Run.{left, told}
 use Rattle.history.specs.Demand.{UnderLossCeiling, Demand, Demand3}
 use Rattle.history.proofs.NotNegative.{not-negative-plain}

@@ -22,7 +22,7 @@ use Rattle.loss_controller.specs.declared.Inputs.{Inputs}
 use Rattle.loss_controller.specs.declared.LossController.{LossController}
 use Rattle.loss_controller.specs.declared.ControllerAnswer.{ControllerAnswer}
 use Rattle.history.specs.Calls.{Call, estimate, acknowledged, alr, capacity, report, read}
-use Rattle.history.specs.History.{Pair, History, isOn, switched, added, completed, running, reported, heard, fed, after}
+use Rattle.history.specs.History.{Pair, History, isOn, switched, added, completed, withRunning, withReport, heard, fed, after}
 use Rattle.history.specs.Refusals.{first, stateRefusal, reportRefusal, refusalOf}
 use Rattle.history.specs.Run.{capacityOf, startOf, step, next, toldOf, left, told}
 use Rattle.history.proofs.Sums.{summed, refusal-of-packets}
@@ -106,8 +106,8 @@ module _ (c : LossController) (h : History) (r : Reached c h) where
   abbrev totalsRefusal : PacketResultsSummary → ℕ
   totalsRefusal s = stateRefusal h (s .«num_packets») (s .«total_size») (s .«last_send_time»)
 
-  reported-on : (p : Pair) (packets time sent : ℕ) → reported h p packets time sent .on ≡ h .on
-  unfolding reported completed running
+  reported-on : (p : Pair) (packets time sent : ℕ) → withReport h p packets time sent .on ≡ h .on
+  unfolding withReport completed withRunning
   reported-on p packets time sent = either (λ (after : History). after .on ≡ h .on) (ltb (time + 250000000) sent) _ _ refl refl
 
   -- the steps after a complete observation are not refused

@@ -35,8 +35,8 @@ use Rattle.loss_controller.specs.Result.{published, lossBasedResult, averageRep
 use Rattle.loss_controller.specs.declared.LossController.{LossController}
 use Rattle.loss_controller.specs.declared.ControllerAnswer.{ControllerAnswer}
 use Rattle.history.specs.Calls.{Call, Told}
-use Rattle.history.specs.History.{History, fresh, switched, bytesOf, lostOf, latest, completed, running, reported, heard, fed, after}
-use Rattle.history.specs.Window.{aged, weighedLost, weighedBytes, allBytes}
+use Rattle.history.specs.History.{History, fresh, switched, bytesOf, lostOf, latest, completed, withRunning, withReport, heard, fed, after}
+use Rattle.history.specs.WeighedPairs.{aged, weighedLost, weighedBytes, allBytes}
 use Rattle.history.specs.Run.{step, next, toldOf, leftOf, allTold, left, told}
 use Rattle.history.specs.Demand.{NearRatio, UnderLossCeiling, Demand, Demand3}
 use Rattle.history.specs.Refusals.{packetsRefusal, reportRefusal, refusalOf, Refusals2}
@@ -197,7 +197,7 @@ pub record Outcome : Type 0 where
 
 unfoldable pub outcome : List Call → Outcome
 unfolding meets near under each hasBytes loses judged refusalOf reportRefusal packetsRefusal step toldOf allTold
-    fed heard switched reported completed running bytesOf lostOf latest aged exactSum allBytes
+    fed heard switched withReport completed withRunning bytesOf lostOf latest aged exactSum allBytes
     Setters.rateRefusal Setters.startRefusal Setters.timeRefusal Setters.setBandwidthEstimate Setters.withAlrStartTime Setters.resetObservations
     Setters.setAlrStartTime Report.hasValidEstimate Report.observed Report.withDelayBasedEstimate Report.reported Report.updateBandwidthEstimate
     withObservations withEstimator withInputs published lossBasedResult averageReportedLossRatio columnsRefusal packets packetRefusal addPacket

@@ -27,7 +27,7 @@ use Rattle.observation.specs.declared.Observation.{Observation}
 use Rattle.observation.specs.declared.Observations.{Observations}
 use Rattle.observation.specs.declared.AddedAnswer.{AddedAnswer}
 use Rattle.observation.proofs.Plain.{completes-after}
-use Rattle.history.specs.History.{Pair, History, nothing, fresh, heldOr, completed, running, reported}
+use Rattle.history.specs.History.{Pair, History, nothing, fresh, heldOr, completed, withRunning, withReport}
 use Rattle.history.proofs.Kept.{Part, Kept, emptied-kept, completed-kept, running-kept}
 use Rattle.history.proofs.Slots.{held, slots, slots-empty, slots-turn, map-set}
 
@@ -142,11 +142,11 @@ abbrev pub pairWith : History → PacketResultsSummary → Pair
 pairWith h s = record { bytes = h .running .bytes + s .«total_size»; lost = h .running .lost + s .«lost_size» }
 
 abbrev pub heardTotals : History → PacketResultsSummary → History
-heardTotals h s = reported h (pairWith h s) (h .packets + s .«num_packets») (heldOr (h .time) (s .«last_send_time»)) (s .«last_send_time»)
+heardTotals h s = withReport h (pairWith h s) (h .packets + s .«num_packets») (heldOr (h .time) (s .«last_send_time»)) (s .«last_send_time»)
 
 module _ (o : Observations) (h : History) (t : Tied o h) where
-  running-tied : (q : PartialObservation) (p : Pair) (packets time : ℕ) → pairOf q ≡ p → q .«num_packets» ≡ packets → Part p → Tied (Window.withPartial o q (Exact time)) (running h p packets time)
-  unfolding Window.withPartial running Ratio.instantUpperBound Ratio.reported
+  running-tied : (q : PartialObservation) (p : Pair) (packets time : ℕ) → pairOf q ≡ p → q .«num_packets» ≡ packets → Part p → Tied (Window.withPartial o q (Exact time)) (withRunning h p packets time)
+  unfolding Window.withPartial withRunning Ratio.instantUpperBound Ratio.reported
   running-tied q p packets time same counted part = record {
     count = t .count;
     slots = t .slots;
@@ -195,7 +195,7 @@ module _ (o : Observations) (h : History) (t : Tied o h) where
 
     -- a report that is not refused leaves observations that are tied to the history that has heard it
     pub added-tied : Window.added o s .refusal ≡ 0 → Tied (Window.added o s .observations) (heardTotals h s)
-    unfolding reported
+    unfolding withReport
     added-tied =
         let sent = s .«last_send_time» in
         let part : Part (pairWith h s) = omega (arith, t .kept .part) in

@@ -13,7 +13,7 @@ use Rattle.loss_controller.specs.Result.{lossBasedResult, averageReportedLossRa
 use Rattle.loss_controller.specs.declared.LossController.{LossController}
 use Rattle.history.specs.Calls.{Call}
 use Rattle.history.specs.History.{History, after}
-use Rattle.history.specs.Window.{weighedLost, weighedBytes, allBytes}
+use Rattle.history.specs.WeighedPairs.{weighedLost, weighedBytes, allBytes}
 use Rattle.history.specs.Run.{left, told}
 
 -- "the reported loss ratio is within r/2^46 of r", for r = l / t: not refused, finite with its sign clear, and so near

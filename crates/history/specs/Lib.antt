@@ -1,6 +1,6 @@
 pub mod Calls
 pub mod History
-pub mod Window
+pub mod WeighedPairs
 pub mod Run
 pub mod Demand
 pub mod Refusals
