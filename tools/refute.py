@@ -1,8 +1,9 @@
 #!/usr/bin/env python3
-"""For each must-fail edit of crate history: under the edit, the claims as a test
-(crates/history/proofs/Sample.antt) are proved FALSE on the list that the edit names as 'list NAME'.
-An edit that names no list is false on one that is too long to compute. Works on a copy under target/refute; the crates below history are taken as they were proved last.
-Exit status 1 if an edit is not refuted."""
+"""refute.py [EDIT..]: for each must-fail edit of crate history, or for those named, that the edited claims are false. Under the edit, the tests of the claims
+(crates/history/proofs/Tested.antt, which proves that the claims make them true) are computed on the list that the edit
+names as 'list NAME' (crates/history/proofs/Sample.antt), and from a false test the negation of the edited claims is
+proved: of Unrefused1, or of Demand3 and Refusals2 together. Works on a copy under target/refute; the crates below history are taken as they were proved last.
+Exit status 1 if an edit is not refuted; one that names no list is not, unless it stands in NOT_COMPUTED."""
 import os
 import re
 import shutil
@@ -12,6 +13,34 @@ import sys
 root = os.path.dirname(os.path.dirname(os.path.abspath(__file__)))
 copy = root + "/target/refute"
 crate = copy + "/crates/history"
+
+# edits that name no list, and why none is computed
+NOT_COMPUTED = {"full-one-early": "the shortest list has 10^9 + 1 reports"}
+
+IMPORTS = """use mathlib.Core.Path.{sym, _∙_}
+use mathlib.Core.Bool.{true≢false}
+use Rattle.history.specs.Demand.{Demand3}
+use Rattle.history.specs.Refusals.{Refusals2}
+use Rattle.history.specs.Unrefused.{Unrefused1}
+use Rattle.history.proofs.Tested.{outcome-met, untraced-met}
+"""
+
+REFUTED = {
+    "outcome": """false-here : outcome {calls} .met ≡ false
+{unfolding}
+false-here = refl
+
+refuted : Demand3 → Refusals2 → ⊥
+refuted d r = true≢false (sym (outcome-met d r {calls}) ∙ false-here)
+""",
+    "untraced": """false-here : untraced {calls} ≡ false
+{unfolding}
+false-here = refl
+
+refuted : Unrefused1 → ⊥
+refuted u = true≢false (sym (untraced-met u {calls}) ∙ false-here)
+""",
+}
 
 
 def read(path):
@@ -34,15 +63,17 @@ def fresh_copy():
     subprocess.run(["git", "init", "-q"], cwd=copy, check=True)
 
 
-def keep_the_claim_alone(list_name):
-    """The proofs but for Sample go, and of Sample all but the named list, where the test is false."""
+def keep_the_claims_alone(list_name):
+    """The proofs but for Tested and Sample go, and of Sample all but the named list, on which its test is false."""
     sample = read(crate + "/proofs/Sample.antt")
-    test = re.search(rf"^{list_name} :\s+outcome (.*?) ≡\s+record .*?\n(unfolding [^\n]*)\n", sample, re.M | re.S)
-    head = sample[: re.search(r"^(--.*\n)?\S+ :\s+outcome", sample, re.M).start()]
+    named = re.search(rf"^{list_name} :\s+(outcome|untraced) (.*?) ≡\s+(?:record|true).*?\n(unfolding [^\n]*)\n", sample, re.M | re.S)
+    test, calls, unfolding = named.groups()
+    head = sample[: re.search(r"^(--.*\n)?\S+ :\s+(outcome|untraced)", sample, re.M).start()]
     for name in os.listdir(crate + "/proofs"):
-        os.remove(f"{crate}/proofs/{name}")
-    write(crate + "/proofs/Lib.antt", "mod Sample\n")
-    write(crate + "/proofs/Sample.antt", head + f"false-here : outcome {test[1]} .met ≡ false\n{test[2]}\nfalse-here = refl\n")
+        if name != "Tested.antt":
+            os.remove(f"{crate}/proofs/{name}")
+    write(crate + "/proofs/Lib.antt", "mod Tested\nmod Sample\n")
+    write(crate + "/proofs/Sample.antt", IMPORTS + head + REFUTED[test].format(calls=calls, unfolding=unfolding))
     os.remove(crate + "/specs/Examples.antt")
     specs = read(crate + "/specs/Lib.antt")
     write(crate + "/specs/Lib.antt", specs.replace("mod Examples\n", ""))
@@ -53,17 +84,17 @@ def refuted(edit):
     file, old, new = (re.search(rf"^{key}: (.*)$", text, re.M)[1] for key in ("file", "old", "new"))
     named = re.search(r"\(list (\S+)\)", text)
     if not named:
-        print(f"{edit}: no list that can be computed")
-        return True
+        print(f"{edit}: not computed" + (f" ({NOT_COMPUTED[edit]})" if edit in NOT_COMPUTED else ", NOT refuted"))
+        return edit in NOT_COMPUTED
     name = named[1]
     shutil.rmtree(crate)
     shutil.copytree(root + "/crates/history", crate)
     source = read(f"{crate}/{file}")
     assert source.count(old) == 1, edit
     write(f"{crate}/{file}", source.replace(old, new))
-    keep_the_claim_alone(name)
+    keep_the_claims_alone(name)
     run = subprocess.run(["rt", "dev", "history"], cwd=copy, capture_output=True, text=True)
-    print(f"{edit}: {'false on ' + name if run.returncode == 0 else 'NOT refuted on ' + name}", flush=True)
+    print(f"{edit}: {'false' if run.returncode == 0 else 'NOT refuted'} on {name}", flush=True)
     if run.returncode:
         print("\n".join(line[:300] for line in (run.stdout + run.stderr).splitlines() if "error" in line))
     return run.returncode == 0
@@ -71,5 +102,5 @@ def refuted(edit):
 
 subprocess.run(["rt", "dev", "history"], cwd=root, check=True, capture_output=True)
 fresh_copy()
-edits = sorted(name[:-5] for name in os.listdir(root + "/crates/history/must-fail"))
+edits = sys.argv[1:] or sorted(name[:-5] for name in os.listdir(root + "/crates/history/must-fail"))
 sys.exit(0 if all([refuted(edit) for edit in edits]) else 1)

@@ -1,5 +1,5 @@
 -- Demand 3: after every list of calls. Assumes nothing.
-use Prim.Native.Nat.{ℕ, _*_, _≤_, _<_}
+use Prim.Native.Nat.{ℕ}
 use mathlib.Core.Path.{_≡_, refl, subst}
 use mathlib.Core.Bool.{Bool, true, false, cond}
 use native.Mathlib.Omega.{arith}
@@ -7,9 +7,10 @@ use borrow.Author.Tests.{ne-eqb}
 use lib.Dec.{T, eqb}
 use lib.Ieee.{Float}
 use lib.Ieee.Scale.{finite}
-use Rattle.float.specs.Rust.{minimum}
-use Rattle.rounding.specs.Exact.{Capped}
-use Rattle.bandwidth.specs.Rate.{rate, smaller}
+use Rattle.float.proofs.Refusal.{either, tested}
+use Rattle.rounding.specs.Plain.{plain}
+use Rattle.rounding.proofs.Upward.{upward-plain, minimum-plain}
+use Rattle.bandwidth.specs.Rate.{smaller}
 use Rattle.bandwidth.specs.declared.Bitrate.{Bitrate}
 use Rattle.bandwidth.specs.declared.OptionBitrate.the-variants.{Some, None}
 use Rattle.candidates.specs.Bound.{atMost}
@@ -17,56 +18,68 @@ use Rattle.observation.specs.Ratio.{cached}
 use Rattle.loss_controller.specs.Result.{published, lossBasedResult, averageReportedLossRatio}
 use Rattle.loss_controller.specs.declared.LossController.{LossController}
 use Rattle.history.specs.History.{History, after}
+use Rattle.history.specs.WeighedPairs.{weighedLost, weighedBytes}
 use Rattle.history.specs.Run.{left, told}
-use Rattle.history.specs.Demand.{Bounded, Demand, Demand3}
+use Rattle.history.specs.Demand.{UnderLossCeiling, Demand, Demand3}
 use Rattle.history.proofs.Weighed.{tied-counted, tied-ratio, tied-ceiling}
-use Rattle.history.proofs.Run.{always}
-use Rattle.history.proofs.Step.{Invariant, initial-tied, step-kept}
-use Rattle.history.proofs.Under.{minimum-finite, minimum-bounded}
+use Rattle.history.proofs.Reached.{Reached, ceiling-not-negative}
+use Rattle.history.proofs.Step.{reached}
+use Rattle.history.proofs.Under.{minimum-under}
 
--- ---- a published rate
+module _ (c : LossController) (h : History) (r : Reached c h) where
+  -- ---- a published rate
 
--- an estimate that is finite stays so under a delay estimate
-delayed-finite : (delay own : Bitrate) → T (finite (own .bps)) → T (finite (atMost delay own .bps))
-unfolding atMost smaller
-delayed-finite delay own f = go (finite (delay .bps)) refl
-  where
-    go : (b : Bool) → finite (delay .bps) ≡ b → T (finite (cond b (rate (minimum (own .bps) (delay .bps))) own .bps))
-    go true e = minimum-finite (own .bps) (delay .bps) f (rw e tt)
-    go false e = f
+  abbrev own : Bitrate
+  own = c .estimator .«current_estimate» .«loss_limited_bandwidth»
 
--- once an observation is complete and a ceiling set, every published rate is under it
-published-bounded : (c : LossController) (k : Float) (l t : ℕ) → cached (c .observations .«cached_instant_upper_bound») ≡ rate k → Capped k l t → t ≤ 20 * l → 0 < c .observations .«num_observations»
-    → (r : Bitrate) → published c ≡ Some r → Bounded (r .bps) l t
-unfolding published smaller
-published-bounded c k l t ceiling capped more some r e = go (finite (own .bps)) refl (rw (ceiling, ne-eqb (c .observations .«num_observations») 0 (λ z. omega (arith, some))) at e)
-  where
-    own : Bitrate
-    own = c .estimator .«current_estimate» .«loss_limited_bandwidth»
+  abbrev delayed : Bitrate
+  delayed = atMost (c .inputs .«delay_based_estimate») own
 
-    limited : Float
-    limited = minimum (atMost (c .inputs .«delay_based_estimate») own .bps) k
+  abbrev ceiling : Bitrate
+  ceiling = cached (c .observations .«cached_instant_upper_bound»)
 
-    go : (b : Bool) → finite (own .bps) ≡ b → cond b (Some (rate limited)) None ≡ Some r → Bounded (r .bps) l t
-    go true f p =
-        let same : rate limited ≡ r = cc in
-        subst (λ (x : Bitrate). Bounded (x .bps) l t) same (minimum-bounded capped more _ (delayed-finite (c .inputs .«delay_based_estimate») own (rw f tt)))
-    go false f p = let no : _≡_ {A = ℕ} 0 1 = cc in absurd (omega arith)
+  -- the estimate is finite, and it or the smallest of the three is published
+  published-by : (P : Float → Type 0) → (T (finite (own .bps)) → P (cond (eqb (c .observations .«num_observations») 0) own (smaller delayed ceiling) .bps))
+      → (r : Bitrate) → lossBasedResult c .«bandwidth_estimate» ≡ Some r → P (r .bps)
+  unfolding lossBasedResult published
+  published-by P holds r = go (finite (own .bps)) refl
+    where
+      chosen : Bitrate
+      chosen = cond (eqb (c .observations .«num_observations») 0) own (smaller delayed ceiling)
 
--- ---- the claim
+      go : (b : Bool) → finite (own .bps) ≡ b → cond b (Some chosen) None ≡ Some r → P (r .bps)
+      go true f e = let same : chosen ≡ r = cc in subst (λ (x : Bitrate). P (x .bps)) same (holds (rw f tt))
+      go false f e = let no : _≡_ {A = ℕ} 0 1 = cc in absurd (omega arith)
 
--- a controller that is tied to a history meets it
-pub demanded : (c : LossController) (h : History) → Invariant c h → Demand c h
-unfolding averageReportedLossRatio lossBasedResult
-demanded c h i =
-    let o = c .observations in
-    let t = i .tied in
-    record {
-      counted = t .count;
-      near = λ some. let ratio = tied-ratio o h t some in record { taken = ratio .0; close = ratio .1 };
-      capped = λ some six. let ceiling = tied-ceiling o h t some six in published-bounded c _ _ _ (ceiling .0) (ceiling .1) (omega (arith, six)) (tied-counted o h t some);
-    }
+  own-plain : T (finite (own .bps)) → T (plain (own .bps))
+  own-plain f = upward-plain (own .bps) (r .estimator .rates .current f .above) f
+
+  delayed-plain : T (finite (own .bps)) → T (plain (delayed .bps))
+  unfolding atMost smaller
+  delayed-plain f =
+      let delay = c .inputs .«delay_based_estimate» in
+      tested (λ (x : Bitrate). T (plain (x .bps))) (finite (delay .bps))
+      (λ e. minimum-plain (own .bps) (delay .bps) (own-plain f) (r .inputs .delay .above (rw e tt) .above)) (λ e. own-plain f)
+
+  -- ---- the claim
+
+  pub demanded : Demand c h
+  unfolding averageReportedLossRatio smaller
+  demanded =
+      let o = c .observations in
+      let t = r .tied in
+      record {
+        counted = t .count;
+        near = λ some. let ratio = tied-ratio o h t some in record { taken = ratio .0; close = ratio .1 };
+        clear = published-by (λ (x : Float). T (plain x))
+            (λ f. either (λ (x : Bitrate). T (plain (x .bps))) (eqb (o .«num_observations») 0) own (smaller delayed ceiling) (own-plain f)
+            (minimum-plain (delayed .bps) (ceiling .bps) (delayed-plain f) (ceiling-not-negative o h t .above)));
+        capped = λ some six. let set = tied-ceiling o h t some six in
+            published-by (λ (x : Float). UnderLossCeiling x (weighedLost h) (weighedBytes h))
+            (λ f. rw (ne-eqb (o .«num_observations») 0 (λ z. omega (arith, tied-counted o h t some)), set .0)
+            (minimum-under (set .1) (omega (arith, six)) (delayed .bps) (delayed-plain f)));
+      }
 
 -- and every list leaves one
 pub demand-3 : Demand3
-demand-3 calls = demanded (left calls) (after (told calls)) (always Invariant step-kept initial-tied calls)
+demand-3 calls = demanded (left calls) (after (told calls)) (reached calls)

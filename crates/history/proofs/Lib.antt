@@ -10,4 +10,7 @@ pub mod Demand
 pub mod Observed
 pub mod Reached
 pub mod Refusals
+pub mod Unrefused
+pub mod EveryRate
+mod Tested
 mod Sample

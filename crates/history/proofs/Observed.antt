@@ -21,8 +21,9 @@ use Rattle.observation.specs.Window as Window
 use Rattle.observation.specs.declared.PartialObservation.{PartialObservation}
 use Rattle.observation.specs.declared.Observations.{Observations}
 use Rattle.observation.specs.declared.AddedAnswer.{AddedAnswer}
-use Rattle.history.specs.History.{History, heldOr, completed}
 use Rattle.observation.proofs.Added.{span, added-by}
+use Rattle.history.specs.History.{History, heldOr, completed}
+use Rattle.history.specs.Refusals.{stateRefusal}
 use Rattle.history.proofs.Tied.{Tied, updated-sums, pairOf, observed-held, completed-tied, completes-is}
 use Rattle.history.proofs.Weighed.{tied-ceiling-taken}
 
@@ -123,10 +124,8 @@ module _ (o : Observations) (h : History) (t : Tied o h) (s : PacketResultsSumma
       (completed-taken o h t (Partial.plus (o .«partial_observation») s) (span o s) (s .«last_send_time») (omega arith) (n .1) (omega arith)) refl))
 
   -- a report is refused with 10 where it passes the limits, with 11 where it completes an observation beyond the last, and never else
-  pub added-refusal : Window.added o s .refusal
-      ≡ cond (ltb (10 ^ 9) (o .«partial_observation» .«num_packets» + s .«num_packets») || ltb (10 ^ 12) (h .running .bytes + s .«total_size»)) 10
-      (cond (ltb (heldOr (h .time) (s .«last_send_time») + 250000000) (s .«last_send_time») && leb (10 ^ 9) (h .count)) 11 0)
-  added-refusal = rw (sym (t .bytes), sym full-is) (tested (λ (n : ℕ). Window.added o s .refusal ≡ n) over beyond-refusal within-refusal)
+  pub added-refusal : Window.added o s .refusal ≡ stateRefusal h (s .«num_packets») (s .«total_size») (s .«last_send_time»)
+  added-refusal = rw (sym (t .packets), sym (t .bytes), sym full-is) (tested (λ (n : ℕ). Window.added o s .refusal ≡ n) over beyond-refusal within-refusal)
 
 -- cleared observations have none
 pub cleared-counted : (count : ℕ) → Counted (Window.cleared count)

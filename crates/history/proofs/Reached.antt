@@ -1,49 +1,53 @@
--- What a controller that a list of calls has left keeps, besides its tie to the history: what the steps that might refuse rely on. Every call keeps it,
--- and with it the steps after a complete observation are not refused. Assumes nothing.
-use Prim.Native.Nat.{ℕ}
+-- What every list of calls leaves: a controller tied to the history, each part of it with what the steps that might refuse rely on. With it the steps
+-- after a complete observation are not refused. Assumes nothing.
+use Prim.Native.Nat.{ℕ, _*_, _^_, _≤_}
 use mathlib.Core.Path.{_≡_, refl, ap}
 use mathlib.Core.Bool.{Bool, true, false}
 use mathlib.Core.Option.{Option, none, some}
 use native.Mathlib.Omega.{arith}
-use lib.Dec.{T, eqb}
+use lib.Dec.{T}
 use lib.IntN.{ℤ}
-use lib.Ieee.{Float, nan, inf, fin, binary64, le, lt}
+use lib.Ieee.{Float, nan, inf, fin, binary64}
 use lib.Ieee.Bits.{ofBits-fits}
-use lib.Ieee.Fits.{inf-fits, sub-fits}
+use lib.Ieee.Fits.{inf-fits}
 use lib.Ieee.Scale.{finite}
 use Rattle.float.specs.Rounded.{bits}
 use Rattle.float.specs.Rust.{signBit}
 use Rattle.float.specs.declared.FloatAnswer.{FloatAnswer}
+use Rattle.float.proofs.Extremes.{minimum-by}
+use Rattle.float.proofs.NotNegative.{Holds, NotNegative, inf-not-negative}
 use Rattle.float.proofs.Refusal.{either, checked as checked-by}
 use Rattle.bandwidth.specs.Rate as Rate
 use Rattle.bandwidth.specs.declared.Bitrate.{Bitrate}
-use Rattle.bandwidth.specs.declared.RateAnswer.{RateAnswer}
 use Rattle.bandwidth.specs.declared.OptionBitrate.{OptionBitrate}
+use Rattle.bandwidth.proofs.NotNegativeRate.{HoldsRate, NotNegativeRate}
 use Rattle.bandwidth.specs.declared.OptionBitrate.the-variants.{Some, None}
+use Rattle.time.specs.Time as Time
+use Rattle.packets.specs.declared.PacketResultsSummary.{PacketResultsSummary}
 use Rattle.observation.specs.Ratio as Ratio
 use Rattle.observation.specs.Rows as Rows
 use Rattle.observation.specs.Window as Window
 use Rattle.observation.specs.declared.Observations.{Observations}
-use Rattle.config.specs.Config as Config
+use Rattle.observation.specs.declared.AddedAnswer.{AddedAnswer}
+use Rattle.observation.proofs.Added.{added-by}
+use Rattle.observation.proofs.NotNegativeLimit.{limit-not-negative}
+use Rattle.observation.proofs.Sent.{AllSent, cleared-sent, added-sent, rows-sent}
 use Rattle.candidates.specs.Bound as Bound
+use Rattle.candidates.proofs.Chosen.{chosen}
+use Rattle.candidates.proofs.Offered.{bound-holds}
+use Rattle.estimator.specs.declared.Estimator.{Estimator}
 use Rattle.estimator.proofs.Steady.{Timely, Steady, Rates, Taken, fresh-steady, fresh-rates, not-refused}
-use Rattle.loss_controller.specs.Controller.{initial, refused}
+use Rattle.loss_controller.specs.Controller.{initial}
 use Rattle.loss_controller.specs.Setters as Setters
 use Rattle.loss_controller.specs.Report as Report
+use Rattle.loss_controller.specs.declared.Inputs.{Inputs}
 use Rattle.loss_controller.specs.declared.LossController.{LossController}
 use Rattle.loss_controller.specs.Setters.{rateOf}
-use Rattle.history.specs.Calls.{acknowledged, capacity, report}
-use Rattle.history.specs.History.{History, reported}
+use Rattle.history.specs.History.{History, fresh}
 use Rattle.history.specs.Run.{capacityOf}
-use Rattle.float.proofs.Extremes.{minimum-by, maximum-by}
-use Rattle.float.proofs.NotNegative.{Holds, NotNegative}
-use Rattle.bandwidth.proofs.NotNegativeRate.{HoldsRate, over-holds}
-use Rattle.history.proofs.Tied.{Tied}
-use Rattle.history.proofs.Weighed.{tied-reported, tied-readable}
-use Rattle.candidates.proofs.Offered.{bound-holds}
-use Rattle.candidates.proofs.Chosen.{chosen}
-use Rattle.observation.proofs.Sent.{AllSent, cleared-sent, rows-sent}
-use Rattle.history.proofs.Observed.{Counted, cleared-counted}
+use Rattle.history.proofs.Tied.{Tied, fresh-tied}
+use Rattle.history.proofs.Weighed.{tied-reported, tied-readable, tied-not-above-one}
+use Rattle.history.proofs.Observed.{Counted, Parted, cleared-counted, added-counted}
 
 -- ---- the rates that calls hand over
 
@@ -81,70 +85,72 @@ capacity-taken (some n) e = rate-taken n e
 
 -- ---- what is kept
 
-pub record Keeps (c : LossController) : Type 0 where
+pub record SoundObservations (o : Observations) : Type 0 where
   -- running packets lost are running packets
-  pub counted : Counted (c .observations)
+  pub counted : Counted o
   -- the observations' rates are floats of binary64
-  pub sent : AllSent (c .observations)
+  pub sent : AllSent o
   -- times are at most 4×10^18 ns
-  pub timely : Timely (c .observations .«last_send_time_most_recent_observation»)
-  -- the estimate, where it is finite, the hold's rate and the limit are not negative
-  pub rates : Rates (c .estimator)
-  -- the window's start is such a time, and the hold lasts 60 s at most
-  pub steady : Steady (c .estimator)
-  pub delay : TakenRate (c .inputs .«delay_based_estimate»)
-  pub acknowledged : TakenRate (c .inputs .«acknowledged_bitrate»)
-  pub capacity : TakenOption (c .inputs .«link_capacity_estimate»)
+  pub timely : Timely (o .«last_send_time_most_recent_observation»)
 
-pub initial-keeps : Keeps initial
+pub record SoundEstimator (e : Estimator) : Type 0 where
+  -- the estimate, where it is finite, the hold's rate and the limit are not negative
+  pub rates : Rates e
+  -- the window's start is such a time, and the hold lasts 60 s at most
+  pub steady : Steady e
+
+pub record SoundInputs (i : Inputs) : Type 0 where
+  pub delay : TakenRate (i .«delay_based_estimate»)
+  pub acknowledged : TakenRate (i .«acknowledged_bitrate»)
+  pub capacity : TakenOption (i .«link_capacity_estimate»)
+
+-- the observations are tied to the history, ALR is on in both or off in both, and each part is sound
+pub record Reached (c : LossController) (h : History) : Type 0 where
+  pub tied : Tied (c .observations) h
+  pub on : Setters.isInAlr c ≡ h .on
+  pub observations : SoundObservations (c .observations)
+  pub estimator : SoundEstimator (c .estimator)
+  pub inputs : SoundInputs (c .inputs)
+
+-- cleared observations are sound
+pub cleared-sound : (count : ℕ) → SoundObservations (Window.cleared count)
 unfolding Window.cleared
-initial-keeps = record {
-  counted = cleared-counted 0;
-  sent = cleared-sent 0;
-  timely = tt;
-  rates = fresh-rates;
-  steady = fresh-steady;
-  delay = infinite-taken;
-  acknowledged = infinite-taken;
-  capacity = tt;
+cleared-sound count = record { counted = cleared-counted count; sent = cleared-sent count; timely = tt }
+
+abbrev TimelyAnswer : AddedAnswer → Type 0
+TimelyAnswer a = Timely (a .observations .«last_send_time_most_recent_observation»)
+
+-- and what a report leaves is
+pub added-sound : (o : Observations) (s : PacketResultsSummary) → SoundObservations o → Parted s → s .«last_send_time» ≤ 4 * 10 ^ 18 → SoundObservations (Window.added o s .observations)
+unfolding Window.withCeiling Window.stored Window.withPartial Window.reference
+added-sound o s k parted early = record {
+  counted = added-counted o s (k .counted) (parted .packets);
+  sent = added-sent o s (k .sent);
+  timely = added-by o s TimelyAnswer (λ n. k .timely) (λ r n. k .timely) (λ u c n. early)
+      (λ u c. either Timely (Time.isExact (o .«last_send_time_most_recent_observation»)) _ _ (k .timely) early);
+}
+
+pub initial-reached : Reached initial fresh
+initial-reached = record {
+  tied = fresh-tied;
+  on = refl;
+  observations = cleared-sound 0;
+  estimator = record { rates = fresh-rates; steady = fresh-steady };
+  inputs = record { delay = infinite-taken; acknowledged = infinite-taken; capacity = tt };
 }
 
 -- ---- the steps after a complete observation
 
-abbrev HoldsAnswer : RateAnswer → Type 0
-HoldsAnswer a = HoldsRate (a .rate)
-
-zero-holds : HoldsAnswer Rate.refused
-zero-holds = ofBits-fits binary64 0
-
 infinite-holds : HoldsRate (Rate.rate (inf false))
 infinite-holds = inf-fits binary64 false
 
-difference-holds : (a b : Bitrate) → HoldsAnswer (Rate.minus a b)
-unfolding Rate.minus
-difference-holds a b = either HoldsAnswer (le (b .bps) (a .bps)) _ Rate.refused (sub-fits binary64 (a .bps) (b .bps)) zero-holds
-
-limit-holds : (ratio : Float) → HoldsAnswer (Ratio.instantLimit ratio)
-unfolding Ratio.instantLimit Ratio.highLossLimit Rate.larger
-limit-holds ratio =
-    let cap = Config.«bandwidth_cap_at_high_loss_rate» in
-    let taken = Rate.times Config.«slope_of_bwe_high_loss_function» ratio in
-    either HoldsAnswer (lt Config.«instant_upper_bound_loss_offset» ratio) _ _
-    (either HoldsAnswer (lt Config.«high_loss_rate_threshold» ratio) _ _
-    (either HoldsAnswer (eqb (Rate.minus cap taken .refusal) 0) _ Rate.refused (maximum-by Holds _ _ (λ h. difference-holds cap taken) (ofBits-fits binary64 _)) zero-holds)
-    (over-holds _ _))
-    infinite-holds
-
 -- whatever ceiling is cached
-ceiling-holds : (o : Observations) (h : History) → Tied o h → Holds (Ratio.cached (o .«cached_instant_upper_bound») .bps)
+pub ceiling-not-negative : (o : Observations) (h : History) → Tied o h → NotNegativeRate (Ratio.cached (o .«cached_instant_upper_bound»))
 unfolding Ratio.validOrMax Ratio.instantUpperBound
-ceiling-holds o h t =
+ceiling-not-negative o h t =
     let limit = Ratio.instantUpperBound o .rate in
-    let ratio = Ratio.averageReportedLossRatio o in
     rw (t .ceiling)
-    (either HoldsRate (finite (limit .bps)) limit _
-    (either HoldsAnswer (eqb (ratio .refusal) 0) (Ratio.instantLimit (ratio .value)) Rate.refused (limit-holds (ratio .value)) zero-holds)
-    infinite-holds)
+    (either NotNegativeRate (finite (limit .bps)) limit _ (rw (tied-reported o h t) (limit-not-negative _ (tied-not-above-one o h t))) inf-not-negative)
 
 capacity-holds : (on : Bool) (link : OptionBitrate) → TakenOption link → Holds (Bound.capacity on link .bps)
 unfolding Bound.capacity Bound.atMost Rate.smaller
@@ -156,19 +162,21 @@ rows-taken : (o : Observations) (h : History) → Tied o h → Rows.rows o .refu
 unfolding Rows.rows
 rows-taken o h t = rw (tied-readable o h t)
 
-pub updated-taken : (c : LossController) (h : History) → Tied (c .observations) h → Keeps c → T (Report.hasValidEstimate c) → Taken (Report.updatedEstimator c)
+pub updated-taken : (c : LossController) (h : History) → Reached c h → T (Report.hasValidEstimate c) → Taken (Report.updatedEstimator c)
 unfolding Report.hasValidEstimate Report.updatedEstimator Report.bounds Report.report
-updated-taken c h t k f =
+updated-taken c h r f =
     let o = c .observations in
     let e = c .estimator in
     let b = Report.bounds c in
     let ratio = Ratio.averageReportedLossRatio o in
-    let fit = bound-holds b (capacity-holds (Setters.isInAlr c) (c .inputs .«link_capacity_estimate») (k .capacity)) (k .rates .limit .holds) (ceiling-holds o h t) (k .delay .holds) in
-    let choice = chosen (e .«current_estimate») b (Rows.rows o .rows) (ratio .value) (k .rates .current f) f (k .delay .above) (k .acknowledged .above) fit (rows-sent o (k .sent)) in
+    let i = r .inputs in
+    let k = r .estimator in
+    let capacity = capacity-holds (Setters.isInAlr c) (c .inputs .«link_capacity_estimate») (i .capacity) in
+    let fit = bound-holds b capacity (k .rates .limit .holds) (ceiling-not-negative o h (r .tied) .holds) (i .delay .holds) in
+    let rows = rows-sent o (r .observations .sent) in
+    let choice = chosen (e .«current_estimate») b (Rows.rows o .rows) (ratio .value) (k .rates .current f) f (i .delay .above) (i .acknowledged .above) fit rows in
     checked-by Taken (Rows.rows o .refusal)
     (λ z. checked-by Taken (ratio .refusal)
-    (λ z. checked-by Taken _
-    (λ z. not-refused e _ (Report.report c (ratio .value)) (k .steady) (k .rates) f (choice .1) (k .timely))
-    (λ r. absurd (r (choice .0))))
-    (λ r. absurd (r (ap (λ (a : FloatAnswer). a .refusal) (tied-reported o h t)))))
-    (λ r. absurd (r (rows-taken o h t)))
+    (λ z. checked-by Taken _ (λ z. not-refused e _ (Report.report c (ratio .value)) (k .steady) (k .rates) f (choice .1) (r .observations .timely)) (λ n. absurd (n (choice .0))))
+    (λ n. absurd (n (ap (λ (a : FloatAnswer). a .refusal) (tied-reported o h (r .tied))))))
+    (λ n. absurd (n (rows-taken o h (r .tied))))

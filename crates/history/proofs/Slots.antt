@@ -20,8 +20,8 @@ use Rattle.observation.specs.Ratio as Ratio
 use Rattle.observation.specs.Window.{dummy}
 use Rattle.observation.specs.declared.Observation.{Observation}
 use Rattle.history.specs.History.{Pair}
-use Rattle.history.specs.Window.{aged}
-use Rattle.history.proofs.Kept.{Within, aged-sound}
+use Rattle.history.specs.WeighedPairs.{aged}
+use Rattle.history.proofs.Kept.{SoundPairs, aged-sound}
 
 -- ---- a list turned at r: the first r backwards, then the others backwards
 module _ {A : Type 0} where
@@ -176,5 +176,5 @@ module _ (n : ℕ) (ps : List Pair) (os : List Observation) (same : map held os 
       rw (window-is n os, same) (rw read at (Permᴰ·filterMap (seen n) (turned-perm (n % 15) (byAge 15 n ps))))
 
   -- and every size of them goes to a float
-  pub slots-readable : Within ps → Ratio.readable os ≡ true
+  pub slots-readable : SoundPairs ps → Ratio.readable os ≡ true
   slots-readable within = sound-readable n os (sound-perm slots-window (aged-sound 0 ps (omega arith) within))

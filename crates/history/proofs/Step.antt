@@ -1,54 +1,71 @@
--- The invariant of a run, and that every call keeps it. Assumes nothing.
-use Prim.Native.Nat.{ℕ, _+_}
+-- What every list of calls leaves, every call keeps; and it is refused exactly where document 01 says. Assumes nothing.
+use Prim.Native.Nat.{ℕ, _+_, _*_, _^_, _≤_}
 use mathlib.Core.Path.{_≡_, refl, sym, _∙_, subst}
-use mathlib.Core.Bool.{Bool, true, false, cond, not, Bool·beq, _&&_, true≢false}
-use mathlib.Core.List.{List, []}
+use mathlib.Core.Bool.{Bool, true, false, cond, not, Bool·beq, _&&_}
+use mathlib.Core.List.{List}
 use mathlib.Core.Option.{Option, none, some}
-use native.Mathlib.Omega.{arith}
-use borrow.Author.Tests.{ne-eqb, eqb-false}
-use lib.Dec.{eqb, ltb}
-use Rattle.float.proofs.Refusal.{either, checked as checked-by}
+use borrow.Author.Tests.{eqb-true, eqb-false, ne-eqb}
+use lib.Dec.{T, eqb, ltb}
+use Rattle.float.proofs.Both.{both}
+use Rattle.float.proofs.Refusal.{agreed, either, tested, checked as checked-by}
 use Rattle.bandwidth.specs.declared.Bitrate.{Bitrate}
 use Rattle.packets.specs.Summary.{columnsRefusal, summaryOf}
 use Rattle.packets.specs.declared.PacketResultsSummary.{PacketResultsSummary}
+use Rattle.packets.proofs.Totals.{summary-early}
 use Rattle.observation.specs.Window as Window
-use Rattle.loss_controller.specs.Controller.{initial, checked, withObservations, withEstimator, withInputs}
-use Rattle.loss_controller.specs.Setters.{rateOf, rateRefusal, capacityRefusal, startRefusal, setBandwidthEstimate, setAcknowledgedBitrate, setLinkCapacityEstimate, isSome, isInAlr, withAlrStartTime, resetObservations, setAlrStartTime}
+use Rattle.loss_controller.specs.Controller.{answered, refused, checked, withObservations, withEstimator, withInputs}
+use Rattle.loss_controller.specs.Setters.{rateOf, rateRefusal, capacityRefusal, startRefusal, isSome, isInAlr}
+use Rattle.loss_controller.specs.Setters.{setBandwidthEstimate, setAcknowledgedBitrate, setLinkCapacityEstimate}
+use Rattle.loss_controller.specs.Setters.{withAlrStartTime, resetObservations, setAlrStartTime}
 use Rattle.loss_controller.specs.Report as Report
+use Rattle.loss_controller.specs.declared.Inputs.{Inputs}
 use Rattle.loss_controller.specs.declared.LossController.{LossController}
 use Rattle.loss_controller.specs.declared.ControllerAnswer.{ControllerAnswer}
 use Rattle.history.specs.Calls.{Call, estimate, acknowledged, alr, capacity, report, read}
-use Rattle.history.specs.History.{Pair, History, nothing, fresh, isOn, switched, added, heldOr, completed, running, reported, heard, fed}
-use Rattle.history.specs.Run.{capacityOf, startOf, step, next, toldOf}
-use Rattle.history.proofs.Kept.{Part, lost-part}
-use Rattle.history.proofs.Sums.{summed}
-use Rattle.history.proofs.Tied.{Tied, reset-tied, fresh-tied, added-tied}
+use Rattle.history.specs.History.{Pair, History, isOn, switched, added, completed, withRunning, withReport, heard, fed, after}
+use Rattle.history.specs.Refusals.{first, stateRefusal, reportRefusal, refusalOf}
+use Rattle.history.specs.Run.{capacityOf, startOf, step, next, toldOf, left, told}
+use Rattle.history.proofs.Sums.{summed, refusal-of-packets}
+use Rattle.history.proofs.Tied.{reset-tied, heardTotals, added-tied}
+use Rattle.history.proofs.Observed.{Parted, added-refusal, summary-parted}
+use Rattle.history.proofs.Reached.{TakenRate, SoundInputs, Reached, rate-taken, capacity-taken, cleared-sound, added-sound, initial-reached, updated-taken}
+use Rattle.history.proofs.Run.{always}
 
--- the observations are tied to the history, and ALR is on in both or off in both
-pub record Invariant (c : LossController) (h : History) : Type 0 where
-  pub tied : Tied (c .observations) h
-  pub on : isInAlr c ≡ h .on
-
-pub initial-tied : Invariant initial fresh
-initial-tied = record { tied = fresh-tied; on = refl }
-
--- an answer to a call before which the history was h: refused, it is h still, else it has heard the call
-abbrev Answers : ControllerAnswer → History → History → Type 0
-Answers a h after = Invariant (a .controller) (cond (not (eqb (a .refusal) 0)) h after)
+-- an answer to a call before which the history was h: its refusal is this number, and what it leaves is reached, refused with h still, else with the
+-- history that has heard the call
+pub record Answered (a : ControllerAnswer) (refusal : ℕ) (h after : History) : Type 0 where
+  pub told : a .refusal ≡ refusal
+  pub leaves : Reached (a .controller) (cond (not (eqb (a .refusal) 0)) h after)
 
 -- a test that the controller and the history make alike
-agreed : {A : Type 0} (P : A → History → Type 0) (a b : Bool) → a ≡ b → {x y : A} {u v : History} → (a ≡ true → P x u) → (a ≡ false → P y v) → P (cond a x y) (cond b u v)
-agreed P true true e f g = f refl
-agreed P true false e f g = absurd (true≢false e)
-agreed P false true e f g = absurd (true≢false (sym e))
-agreed P false false e f g = g refl
+alike : (b : Bool) {x y : ControllerAnswer} {m n : ℕ} {h u v : History} → Answered x m h u → (b ≡ false → Answered y n h v) → Answered (cond b x y) (cond b m n) h (cond b u v)
+alike true p q = p
+alike false p q = q refl
 
-module _ (c : LossController) (h : History) (i : Invariant c h) where
-  -- a test that the controller alone makes
-  checked-kept : (refusal : ℕ) (a : ControllerAnswer) (after : History) → (refusal ≡ 0 → Answers a h after) → Answers (checked c refusal a) h after
-  checked-kept refusal a after taken = checked-by (λ (a : ControllerAnswer). Answers a h after) refusal taken (λ n. rw (ne-eqb refusal 0 n) i)
+module _ (c : LossController) (h : History) (r : Reached c h) where
+  -- a refusal
+  refused-answered : (refusal : ℕ) (after : History) → (refusal ≡ 0 → ⊥) → Answered (refused c refusal) refusal h after
+  refused-answered refusal after n = record { told = refl; leaves = rw (ne-eqb refusal 0 n) r }
 
-  -- ---- ALR
+  -- and a test for one
+  checked-answered : (refusal : ℕ) (a : ControllerAnswer) (later : ℕ) (after : History)
+      → (refusal ≡ 0 → Answered a later h after) → Answered (checked c refusal a) (first refusal later) h after
+  checked-answered refusal a later after taken = go (eqb refusal 0) refl
+    where
+      go : (b : Bool) → eqb refusal 0 ≡ b → Answered (cond b a (refused c refusal)) (cond b later refusal) h after
+      go true e = taken (eqb-true refusal 0 e)
+      go false e = refused-answered refusal after (eqb-false refusal 0 e)
+
+  -- ---- a setter
+
+  set-answered : (refusal : ℕ) (set : LossController) (after : History) → (refusal ≡ 0 → Reached set after) → Answered (checked c refusal (answered set)) refusal h after
+  set-answered refusal set after taken =
+      checked-by (λ (a : ControllerAnswer). Answered a refusal h after) refusal (λ z. record { told = sym z; leaves = taken z }) (refused-answered refusal after)
+
+  -- other inputs, but for ALR
+  inputs-reached : (i : Inputs) → i .«alr_start_time» ≡ c .inputs .«alr_start_time» → SoundInputs i → Reached (withInputs c i) h
+  unfolding withInputs
+  inputs-reached i same sound = record { tied = r .tied; on = rw same (r .on); observations = r .observations; estimator = r .estimator; inputs = sound }
 
   same : (a b : Bool) → Bool·beq a b ≡ true → b ≡ a
   same true true e = refl
@@ -60,70 +77,111 @@ module _ (c : LossController) (h : History) (i : Invariant c h) where
   starts none = refl
   starts (some time) = refl
 
-  cleared-tied : (on : Bool) → Tied (Window.cleared (c .observations .«num_observations»)) (record { pairs = []; running = nothing; packets = 0; time = none; on = on; count = h .count })
-  cleared-tied on = rw (i .tied .count) (reset-tied (h .count) on)
-
-  switched-kept : (start : Option ℕ)
+  switched-reached : (start : Option ℕ)
       → let set = withAlrStartTime c (startOf start) in
-      Invariant (cond (Bool·beq (isInAlr c) (isSome (startOf start))) set (resetObservations set)) (switched h (isOn start))
+      Reached (cond (Bool·beq (isInAlr c) (isSome (startOf start))) set (resetObservations set)) (switched h (isOn start))
   unfolding switched withAlrStartTime resetObservations withInputs withObservations
-  switched-kept start =
-      agreed Invariant (Bool·beq (isInAlr c) (isSome (startOf start))) (Bool·beq (h .on) (isOn start)) (rw (i .on, starts start))
-      (λ e. record { tied = i .tied; on = same (isInAlr c) (isSome (startOf start)) e ∙ i .on })
-      (λ e. record { tied = cleared-tied (isOn start); on = starts start })
+  switched-reached start =
+      let i = r .inputs in
+      let inputs : SoundInputs (withAlrStartTime c (startOf start) .inputs) = record { delay = i .delay; acknowledged = i .acknowledged; capacity = i .capacity } in
+      agreed Reached (Bool·beq (isInAlr c) (isSome (startOf start))) (Bool·beq (h .on) (isOn start)) (rw (r .on, starts start))
+      (λ e. record { tied = r .tied; on = same (isInAlr c) (isSome (startOf start)) e ∙ r .on; observations = r .observations; estimator = r .estimator; inputs = inputs })
+      (λ e. record {
+        tied = rw (r .tied .count) (reset-tied (h .count) (isOn start));
+        on = starts start;
+        observations = cleared-sound (c .observations .«num_observations»);
+        estimator = r .estimator;
+        inputs = inputs;
+      })
 
   -- ---- a report
 
-  reported-on : (p : Pair) (packets time sent : ℕ) → reported h p packets time sent .on ≡ h .on
-  unfolding reported completed running
+  abbrev totalsRefusal : PacketResultsSummary → ℕ
+  totalsRefusal s = stateRefusal h (s .«num_packets») (s .«total_size») (s .«last_send_time»)
+
+  reported-on : (p : Pair) (packets time sent : ℕ) → withReport h p packets time sent .on ≡ h .on
+  unfolding withReport completed withRunning
   reported-on p packets time sent = either (λ (after : History). after .on ≡ h .on) (ltb (time + 250000000) sent) _ _ refl refl
 
-  -- whatever becomes of the estimate
-  observed-kept : (new : LossController) (after : History) (completed : Bool) → Invariant new after → Answers (Report.observed c new completed) h after
+  -- the steps after a complete observation are not refused
+  observed-answered : (new : LossController) (after : History) (completed : Bool) → Reached new after → Answered (Report.observed c new completed) 0 h after
   unfolding Report.observed withEstimator
-  observed-kept new after completed j =
-      either (λ (a : ControllerAnswer). Answers a h after) (completed && Report.hasValidEstimate new) _ _
-      (checked-kept (Report.updatedEstimator new .refusal) _ after (λ e. record { tied = j .tied; on = j .on }))
-      j
+  observed-answered new after completed j =
+      let updated = Report.updatedEstimator new in
+      tested (λ (a : ControllerAnswer). Answered a 0 h after) (completed && Report.hasValidEstimate new)
+      (λ e. let u = updated-taken new after j (subst T (sym (both completed (Report.hasValidEstimate new) e .1)) tt) in
+      checked-by (λ (a : ControllerAnswer). Answered a 0 h after) (updated .refusal)
+      (λ z. record { told = refl; leaves = record { tied = j .tied; on = j .on; observations = j .observations; estimator = record { rates = u .rates; steady = u .steady }; inputs = j .inputs } })
+      (λ n. absurd (n (u .refusal))))
+      (λ e. record { told = refl; leaves = j })
 
-  reported-kept : (s : PacketResultsSummary) (delay : Bitrate) (p : Pair) → p .bytes ≡ h .running .bytes + s .«total_size» → p .lost ≡ h .running .lost + s .«lost_size» → Part p
-      → Answers (Report.reported c s delay) h (cond (eqb (s .«num_packets») 0) h (reported h p (h .packets + s .«num_packets») (heldOr (h .time) (s .«last_send_time»)) (s .«last_send_time»)))
+  reported-answered : (s : PacketResultsSummary) (delay : Bitrate) → TakenRate delay → Parted s → s .«last_send_time» ≤ 4 * 10 ^ 18
+      → Answered (Report.reported c s delay) (cond (eqb (s .«num_packets») 0) 0 (totalsRefusal s)) h (cond (eqb (s .«num_packets») 0) h (heardTotals h s))
   unfolding Report.reported Report.withDelayBasedEstimate withInputs withObservations
-  reported-kept s delay p bytes lost part =
-      let after = reported h p (h .packets + s .«num_packets») (heldOr (h .time) (s .«last_send_time»)) (s .«last_send_time») in
-      agreed (λ (a : ControllerAnswer) (after : History). Answers a h after) (eqb (s .«num_packets») 0) _ refl
-      (λ e. record { tied = i .tied; on = i .on })
-      (λ there. checked-kept (Window.added (c .observations) s .refusal) _ after
-      (λ e. observed-kept _ after (Window.added (c .observations) s .completed)
-      (record {
-        tied = added-tied (c .observations) h (i .tied) s p bytes lost part (eqb-false _ _ there) e;
-        on = i .on ∙ sym (reported-on p _ _ _);
-      })))
+  reported-answered s delay d parted early =
+      let o = c .observations in
+      let a = Window.added o s in
+      let inputs : SoundInputs (Report.withDelayBasedEstimate c delay .inputs) = record { delay = d; acknowledged = r .inputs .acknowledged; capacity = r .inputs .capacity } in
+      alike (eqb (s .«num_packets») 0)
+      (record { told = refl; leaves = record { tied = r .tied; on = r .on; observations = r .observations; estimator = r .estimator; inputs = inputs } })
+      (λ e. let there = eqb-false (s .«num_packets») 0 e in
+      let refusal = added-refusal o h (r .tied) s (r .observations .counted) there (parted .packets) (parted .bytes) in
+      checked-by (λ (b : ControllerAnswer). Answered b (totalsRefusal s) h (heardTotals h s)) (a .refusal)
+      (λ z. let b = observed-answered _ (heardTotals h s) (a .completed) (record {
+        tied = added-tied o h (r .tied) s (parted .bytes) there z;
+        on = r .on ∙ sym (reported-on _ _ _ _);
+        observations = added-sound o s (r .observations) parted early;
+        estimator = r .estimator;
+        inputs = inputs;
+      }) in
+      record { told = b .told ∙ sym z ∙ refusal; leaves = b .leaves })
+      (λ n. record { told = refusal; leaves = refused-answered (a .refusal) (heardTotals h s) n .leaves }))
 
-  updated-kept : (times sizes flags : List ℕ) (delay : ℕ) → Answers (Report.updateBandwidthEstimate c times sizes flags (rateOf delay)) h (heard h (report times sizes flags delay))
-  unfolding Report.updateBandwidthEstimate heard
-  updated-kept times sizes flags delay =
-      let p = added (h .running) sizes flags in
+  updated-answered : (times sizes flags : List ℕ) (delay : ℕ)
+      → Answered (Report.updateBandwidthEstimate c times sizes flags (rateOf delay)) (reportRefusal h times sizes flags delay) h (heard h (report times sizes flags delay))
+  unfolding Report.updateBandwidthEstimate reportRefusal heard
+  updated-answered times sizes flags delay =
       let s = summaryOf times sizes flags in
-      checked-kept (columnsRefusal times sizes flags) _ _
-      (λ e. checked-kept (rateRefusal (rateOf delay)) _ _
-      (λ e. checked-kept (s .refusal) _ _
-      (λ e. let m = summed times sizes flags e in
-      subst (λ (after : History). Answers (Report.reported c (s .summary) (rateOf delay)) h after) (cc (m .packets, m .last))
-      (reported-kept (s .summary) (rateOf delay) p (rw (m .bytes)) (rw (m .lost)) (omega (arith, i .tied .kept .part, lost-part sizes flags))))))
+      checked-answered (columnsRefusal times sizes flags) _ _ _
+      (λ columns. checked-answered (rateRefusal (rateOf delay)) _ _ _
+      (λ rate. rw (← (refusal-of-packets times sizes flags columns))
+      (checked-answered (s .refusal) _ _ _
+      (λ z. let m = summed times sizes flags z in
+      rw (← (m .packets), ← (m .bytes), ← (m .lost), ← (m .last))
+      (reported-answered (s .summary) (rateOf delay) (rate-taken delay rate) (summary-parted times sizes flags) (summary-early times sizes flags))))))
 
   -- ---- any call
 
-  answers : (call : Call) → Answers (step c call) h (heard h call)
-  unfolding step heard setBandwidthEstimate setAcknowledgedBitrate setLinkCapacityEstimate setAlrStartTime withEstimator withInputs
-  answers (estimate rate) = checked-kept (rateRefusal (rateOf rate)) _ h (λ e. record { tied = i .tied; on = i .on })
-  answers (acknowledged rate) = checked-kept (rateRefusal (rateOf rate)) _ h (λ e. record { tied = i .tied; on = i .on })
-  answers (alr start) = checked-kept (startRefusal (startOf start)) _ _ (λ e. switched-kept start)
-  answers (capacity rate) = checked-kept (capacityRefusal (capacityOf rate)) _ h (λ e. record { tied = i .tied; on = i .on })
-  answers (report times sizes flags delay) = updated-kept times sizes flags delay
-  answers read = i
+  pub answers : (call : Call) → Answered (step c call) (refusalOf h call) h (heard h call)
+  unfolding step refusalOf heard setBandwidthEstimate setAcknowledgedBitrate setLinkCapacityEstimate setAlrStartTime withEstimator
+  answers (estimate n) =
+      let k = r .estimator in
+      set-answered (rateRefusal (rateOf n)) _ h
+      (λ z. record {
+        tied = r .tied;
+        on = r .on;
+        observations = r .observations;
+        estimator = record {
+          rates = record { current = rate-taken n z .above; hold = k .rates .hold; limit = k .rates .limit };
+          steady = record { start = k .steady .start; span = k .steady .span };
+        };
+        inputs = r .inputs;
+      })
+  answers (acknowledged n) =
+      let i = r .inputs in
+      set-answered (rateRefusal (rateOf n)) _ h (λ z. inputs-reached _ refl (record { delay = i .delay; acknowledged = rate-taken n z; capacity = i .capacity }))
+  answers (alr start) = set-answered (startRefusal (startOf start)) _ _ (λ z. switched-reached start)
+  answers (capacity n) =
+      let i = r .inputs in
+      set-answered (capacityRefusal (capacityOf n)) _ h (λ z. inputs-reached _ refl (record { delay = i .delay; acknowledged = i .acknowledged; capacity = capacity-taken n z }))
+  answers (report times sizes flags delay) = updated-answered times sizes flags delay
+  answers read = record { told = refl; leaves = r }
 
--- every call keeps it
-pub step-kept : (c : LossController) (h : History) (call : Call) → Invariant c h → Invariant (next c call) (fed h (toldOf c call))
+-- ---- every list
+
+step-reached : (c : LossController) (h : History) (call : Call) → Reached c h → Reached (next c call) (fed h (toldOf c call))
 unfolding fed toldOf
-step-kept c h call i = answers c h i call
+step-reached c h call r = answers c h r call .leaves
+
+pub reached : (calls : List Call) → Reached (left calls) (after (told calls))
+reached calls = always Reached step-reached initial-reached calls

@@ -127,7 +127,3 @@ summed times sizes flags h =
     let b = beyond empty times sizes flags (even .sizes-even) (even .flags-even) (sym (refusal-of-packets times sizes flags c) ∙ h) in
     rw (eq-eqb (columnsRefusal times sizes flags) 0 c)
     (record { packets = omega (arith, b .packets); bytes = omega (arith, b .bytes); lost = omega (arith, b .lost); last = omega (arith, b .last) })
-
--- it is without packets where the history sees none
-pub summed-empty : {s : PacketResultsSummary} {times sizes flags : List ℕ} → Summed s times sizes flags → eqb (s .«num_packets») 0 ≡ eqb (length times) 0
-summed-empty h = rw (h .packets) refl

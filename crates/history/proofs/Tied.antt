@@ -9,7 +9,7 @@ use borrow.Author.Tests.{ltb-false}
 use lib.Dec.{eqb, leb, ltb, lit<}
 use lib.IntN.{pos}
 use lib.Ieee.{eq, lt, ofBits}
-use Rattle.float.proofs.Refusal.{accepted}
+use Rattle.float.proofs.Refusal.{accepted, tested, checked}
 use Rattle.rounding.specs.Ratio.{lossRatio}
 use Rattle.bandwidth.specs.Size as Size
 use Rattle.time.specs.Delta as Delta
@@ -28,7 +28,7 @@ use Rattle.observation.specs.declared.Observations.{Observations}
 use Rattle.observation.specs.declared.AddedAnswer.{AddedAnswer}
 use Rattle.observation.proofs.Added.{sums, span, added-by}
 use Rattle.observation.proofs.Plain.{completes-after}
-use Rattle.history.specs.History.{Pair, History, nothing, fresh, heldOr, completed, running, reported}
+use Rattle.history.specs.History.{Pair, History, nothing, fresh, heldOr, completed, withRunning, withReport}
 use Rattle.history.proofs.Kept.{Part, Kept, emptied-kept, completed-kept, running-kept}
 use Rattle.history.proofs.Slots.{held, slots, slots-empty, slots-turn, map-set}
 
@@ -95,9 +95,6 @@ updated-sums q s h =
 abbrev pub pairOf : PartialObservation → Pair
 pairOf q = record { bytes = q .size; lost = q .«lost_size» }
 
-pair-is : {bytes lost : ℕ} (p : Pair) → bytes ≡ p .bytes → lost ≡ p .lost → record { bytes = bytes; lost = lost } ≡ p
-pair-is p b l = λ i. record { bytes = b i; lost = l i }
-
 -- held with its id and the sums
 pub observed-held : (q : PartialObservation) (id : ℕ) (span : TimeDelta) → Window.observed q id span .refusal ≡ 0
     → (Window.observed q id span .observation .id ≡ id) × (held (Window.observed q id span .observation) ≡ some (id, pairOf q))
@@ -108,9 +105,17 @@ observed-held q id span h =
     (rw e, rw e)
 
 -- ---- a report
+
+-- the running pair with a report's bytes, and the history that has heard a report with these totals
+abbrev pub pairWith : History → PacketResultsSummary → Pair
+pairWith h s = record { bytes = h .running .bytes + s .«total_size»; lost = h .running .lost + s .«lost_size» }
+
+abbrev pub heardTotals : History → PacketResultsSummary → History
+heardTotals h s = withReport h (pairWith h s) (h .packets + s .«num_packets») (heldOr (h .time) (s .«last_send_time»)) (s .«last_send_time»)
+
 module _ (o : Observations) (h : History) (t : Tied o h) where
-  running-tied : (q : PartialObservation) (p : Pair) (packets time : ℕ) → pairOf q ≡ p → q .«num_packets» ≡ packets → Part p → Tied (Window.withPartial o q (Exact time)) (running h p packets time)
-  unfolding Window.withPartial running Ratio.instantUpperBound Ratio.averageReportedLossRatio
+  running-tied : (q : PartialObservation) (p : Pair) (packets time : ℕ) → pairOf q ≡ p → q .«num_packets» ≡ packets → Part p → Tied (Window.withPartial o q (Exact time)) (withRunning h p packets time)
+  unfolding Window.withPartial withRunning Ratio.instantUpperBound Ratio.averageReportedLossRatio
   running-tied q p packets time same counted part = record {
     count = t .count;
     slots = t .slots;
@@ -147,22 +152,24 @@ module _ (o : Observations) (h : History) (t : Tied o h) where
   pub completes-is : (sent : ℕ) → Window.completes (Time.since (Exact sent) (Window.reference (o .«last_send_time_most_recent_observation») (Exact sent))) ≡ ltb (heldOr (h .time) sent + 250000000) sent
   completes-is sent = rw (from-is sent) (completes-after sent (heldOr (h .time) sent))
 
-  module _ (s : PacketResultsSummary) (p : Pair) (bytes : p .bytes ≡ h .running .bytes + s .«total_size») (lost : p .lost ≡ h .running .lost + s .«lost_size») (part : Part p) where
+  -- of whose bytes no more are lost than sent
+  module _ (s : PacketResultsSummary) (parted : s .«lost_size» ≤ s .«total_size») where
     abbrev counted : ℕ
     counted = h .packets + s .«num_packets»
 
-    sums-are : sums o s .refusal ≡ 0 → (pairOf (sums o s .partial) ≡ p) × (p .bytes ≤ 10 ^ 12) × (sums o s .partial .«num_packets» ≡ counted)
+    sums-are : sums o s .refusal ≡ 0 → (pairOf (sums o s .partial) ≡ pairWith h s) × (pairWith h s .bytes ≤ 10 ^ 12) × (sums o s .partial .«num_packets» ≡ counted)
     sums-are e =
         let u = updated-sums (o .«partial_observation») s e in
-        (ap pairOf (u .0) ∙ pair-is p (omega (arith, t .bytes)) (omega (arith, t .lost)), omega (arith, u .1, t .bytes), ap (λ (q : PartialObservation). q .«num_packets») (u .0) ∙ rw (t .packets))
+        (ap pairOf (u .0) ∙ rw (t .bytes, t .lost), omega (arith, u .1, t .bytes), ap (λ (q : PartialObservation). q .«num_packets») (u .0) ∙ rw (t .packets))
 
     -- a report that is not refused leaves observations that are tied to the history that has heard it
-    pub added-tied : (s .«num_packets» ≡ 0 → ⊥) → Window.added o s .refusal ≡ 0 → Tied (Window.added o s .observations) (reported h p (h .packets + s .«num_packets») (heldOr (h .time) (s .«last_send_time»)) (s .«last_send_time»))
-    unfolding reported
+    pub added-tied : (s .«num_packets» ≡ 0 → ⊥) → Window.added o s .refusal ≡ 0 → Tied (Window.added o s .observations) (heardTotals h s)
+    unfolding withReport
     added-tied there =
         let sent = s .«last_send_time» in
-        added-by o s (λ (a : AddedAnswer). a .refusal ≡ 0 → Tied (a .observations) (reported h p counted (heldOr (h .time) sent) sent)) (λ n z. absurd (there n)) (λ r n z. absurd (n z))
+        let part : Part (pairWith h s) = omega (arith, t .kept .part) in
+        added-by o s (λ (a : AddedAnswer). a .refusal ≡ 0 → Tied (a .observations) (heardTotals h s)) (λ n z. absurd (there n)) (λ r n z. absurd (n z))
         (λ u c n z. let q = sums-are u in let new = observed-held (sums o s .partial) (o .«num_observations») (span o s) n in
-        rw (sym (completes-is sent) ∙ c) (completed-tied _ p sent (new .0) (rw (q .0) at (new .1)) (q .1) part))
+        rw (sym (completes-is sent) ∙ c) (completed-tied _ (pairWith h s) sent (new .0) (rw (q .0) at (new .1)) (q .1) part))
         (λ u c z. let q = sums-are u in
-        rw (sym (completes-is sent) ∙ c, from-is sent) (running-tied (sums o s .partial) p counted (heldOr (h .time) sent) (q .0) (q .2) part))
+        rw (sym (completes-is sent) ∙ c, from-is sent) (running-tied (sums o s .partial) (pairWith h s) counted (heldOr (h .time) sent) (q .0) (q .2) part))

@@ -24,7 +24,7 @@ use Rattle.observation.specs.Ratio as Ratio
 use Rattle.observation.specs.declared.Observations.{Observations}
 use Rattle.observation.proofs.Plain.{limit-is-ceiling}
 use Rattle.history.specs.History.{Pair, History}
-use Rattle.history.specs.Window.{aged, window, weighedLost, weighedBytes, allBytes}
+use Rattle.history.specs.WeighedPairs.{aged, window, weighedLost, weighedBytes, allBytes}
 use Rattle.history.proofs.Kept.{aged-sound}
 use Rattle.history.proofs.Slots.{slots-window, slots-readable}
 use Rattle.history.proofs.Tied.{Tied}
@@ -62,14 +62,14 @@ module _ (o : Observations) (h : History) (t : Tied o h) where
   any-order = rw (t .count) (slots-window (h .count) (h .pairs) (o .observations) (t .slots) (t .kept .counted) (t .kept .few))
 
   sound : AllSound (window h)
-  sound = aged-sound 0 (h .pairs) (omega (arith, t .kept .few)) (t .kept .within)
+  sound = aged-sound 0 (h .pairs) (omega (arith, t .kept .few)) (t .kept .sound)
 
   short : length (window h) ≤ 15
   short = rw (aged-length 0 (h .pairs)) (t .kept .few)
 
   -- every size goes to a float
   pub tied-readable : Ratio.readable (o .observations) ≡ true
-  tied-readable = slots-readable (h .count) (h .pairs) (o .observations) (t .slots) (t .kept .counted) (t .kept .few) (t .kept .within)
+  tied-readable = slots-readable (h .count) (h .pairs) (o .observations) (t .slots) (t .kept .counted) (t .kept .few) (t .kept .sound)
 
   -- so the ratio is not refused
   pub tied-reported : Ratio.averageReportedLossRatio o ≡ answered (lossRatio read)
@@ -77,7 +77,7 @@ module _ (o : Observations) (h : History) (t : Tied o h) where
   tied-reported = rw tied-readable
 
   -- nor is it above 1.0
-  tied-not-above-one : lt Config.«high_loss_rate_threshold» (lossRatio read) ≡ false
+  pub tied-not-above-one : lt Config.«high_loss_rate_threshold» (lossRatio read) ≡ false
   tied-not-above-one = ratio-not-above-one read (sound-perm any-order sound) (rw (length-perm any-order) short)
 
   -- so the ceiling is not refused

@@ -1,4 +1,5 @@
--- The calls of demand 3 as data, and what the history is told of one. A rate is the 64 bits of its f64, a time is in ns. Definitions only.
+-- The calls of demand 3 as data, and what the history is told of one. A rate is the 64 bits of its f64: no rate is lost by that (`every-rate` in
+-- `proofs/EveryRate`). A time is in ns. Definitions only.
 use Prim.Native.Nat.{ℕ}
 use mathlib.Core.Bool.{Bool}
 use mathlib.Core.List.{List}

@@ -4,7 +4,6 @@ use mathlib.Core.Path.{_≡_}
 use mathlib.Core.List.{List}
 use lib.Dec.{T}
 use lib.Ieee.{Float}
-use lib.Ieee.Scale.{finite}
 use Rattle.rounding.specs.Exact.{Close, UnderCeiling}
 use Rattle.rounding.specs.Plain.{plain}
 use Rattle.float.specs.declared.FloatAnswer.{FloatAnswer}
@@ -14,28 +13,32 @@ use Rattle.loss_controller.specs.Result.{lossBasedResult, averageReportedLossRa
 use Rattle.loss_controller.specs.declared.LossController.{LossController}
 use Rattle.history.specs.Calls.{Call}
 use Rattle.history.specs.History.{History, after}
-use Rattle.history.specs.Window.{weighedLost, weighedBytes, allBytes}
+use Rattle.history.specs.WeighedPairs.{weighedLost, weighedBytes, allBytes}
 use Rattle.history.specs.Run.{left, told}
 
 -- "the reported loss ratio is within r/2^46 of r", for r = l / t: not refused, finite with its sign clear, and so near
-pub record Near (ratio : FloatAnswer) (l t : ℕ) : Type 0 where
+pub record NearRatio (ratio : FloatAnswer) (l t : ℕ) : Type 0 where
   pub taken : ratio .refusal ≡ 0
   pub close : Close (ratio .value) l t
 
--- "no published rate exceeds 100,000/(r - 1/20) bit/s by more than one part in 2^40", for r = l / t: x is finite and, unless its sign is set, under that ceiling
-pub record Bounded (x : Float) (l t : ℕ) : Type 0 where
-  pub finitely : T (finite x)
-  pub above : T (plain x) → UnderCeiling x l t
+-- "no published rate exceeds 100,000/(r - 1/20) bit/s by more than one part in 2^40", for r = l / t: x is finite with its sign clear, and under that
+-- ceiling
+pub record UnderLossCeiling (x : Float) (l t : ℕ) : Type 0 where
+  pub plainly : T (plain x)
+  pub under : UnderCeiling x l t
 
 -- l / t is r: "r is the sum of weight × lost bytes over that of weight × bytes"
 pub record Demand (c : LossController) (h : History) : Type 0 where
   -- "the count equal to the history's after every list"
   pub counted : numObservations c ≡ h .count
   -- "if the window has bytes": the ratio
-  pub near : 0 < allBytes (h .pairs) → Near (averageReportedLossRatio c) (weighedLost h) (weighedBytes h)
-  -- "and where r is at least 0.06": every rate that `loss_based_result` gives, which it does while the controller's own estimate is finite
+  pub near : 0 < allBytes (h .pairs) → NearRatio (averageReportedLossRatio c) (weighedLost h) (weighedBytes h)
+  -- "a published rate is one that `loss_based_result` gives while the controller's own estimate is finite": each is finite with its sign clear
+  pub clear : (published : Bitrate) → lossBasedResult c .«bandwidth_estimate» ≡ Some published → T (plain (published .bps))
+  -- "and where r is at least 0.06": each is under the ceiling
   pub capped : 0 < allBytes (h .pairs) → 6 * weighedBytes h ≤ 100 * weighedLost h
-      → (published : Bitrate) → lossBasedResult c .«bandwidth_estimate» ≡ Some published → Bounded (published .bps) (weighedLost h) (weighedBytes h)
+      → (published : Bitrate) → lossBasedResult c .«bandwidth_estimate» ≡ Some published
+      → UnderLossCeiling (published .bps) (weighedLost h) (weighedBytes h)
 
 -- demand 3: after every list of calls
 abbrev pub Demand3 : Type 0

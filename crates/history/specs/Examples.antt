@@ -7,8 +7,8 @@ use mathlib.Core.Option.{none, some}
 use lib.ListN.{length}
 use Rattle.rounding.specs.Exact.{exactSum}
 use Rattle.history.specs.Calls.{Call, estimate, alr, report, read, Told}
-use Rattle.history.specs.History.{fresh, switched, bytesOf, lostOf, latest, completed, running, reported, heard, fed, after}
-use Rattle.history.specs.Window.{aged, weighedLost, weighedBytes, allBytes}
+use Rattle.history.specs.History.{fresh, switched, bytesOf, lostOf, latest, completed, withRunning, withReport, heard, fed, after}
+use Rattle.history.specs.WeighedPairs.{aged, weighedLost, weighedBytes, allBytes}
 
 abbrev taken : Call → Told
 taken c = record { call = c; refused = false }
@@ -23,7 +23,7 @@ spans :
     record { pairs = []; running = record { bytes = 101; lost = 10 }; packets = 4; time = some 5; on = false; count = 0 }
     × after (sent 5 90 10 ∷ sent 250000006 1 0 ∷ []) ≡
     record { pairs = record { bytes = 101; lost = 10 } ∷ []; running = record { bytes = 0; lost = 0 }; packets = 0; time = some 250000006; on = false; count = 1 }
-unfolding fed heard reported completed running bytesOf lostOf latest
+unfolding fed heard withReport completed withRunning bytesOf lostOf latest
 spans = (refl, refl)
 
 -- refused, empty, read, and a setter other than ALR
@@ -45,7 +45,7 @@ changes :
     × after (taken (alr (some 1)) ∷ sent 5 90 10 ∷ taken (alr (some 2)) ∷ []) ≡
     record { pairs = []; running = record { bytes = 100; lost = 10 }; packets = 2; time = some 5; on = true; count = 0 }
     × after (taken (alr (some 1)) ∷ sent 5 90 10 ∷ taken (alr none) ∷ []) ≡ fresh
-unfolding fed heard switched reported completed running bytesOf lostOf latest
+unfolding fed heard switched withReport completed withRunning bytesOf lostOf latest
 changes = (refl, refl, refl)
 
 -- ---- the window
@@ -59,12 +59,12 @@ counted (suc n) k = sent (k * 300000000) k 0 ∷ counted n (k + 1)
 sixteen : length (after (sent 0 0 0 ∷ counted 16 1) .pairs) ≡ 15
     × after (sent 0 0 0 ∷ counted 16 1) .count ≡ 16
     × allBytes (after (sent 0 0 0 ∷ counted 16 1) .pairs) ≡ 135
-unfolding counted fed heard reported completed running bytesOf lostOf latest allBytes
+unfolding counted fed heard withReport completed withRunning bytesOf lostOf latest allBytes
 sixteen = (refl, refl, refl)
 
 -- 10 of 100 bytes lost, and before that 10 of 1,000: 10^14 and 9 × 10^13
 weighed :
     weighedLost (after (sent 0 0 0 ∷ sent 300000000 990 10 ∷ sent 600000000 90 10 ∷ [])) ≡ 1900000000000000
     × weighedBytes (after (sent 0 0 0 ∷ sent 300000000 990 10 ∷ sent 600000000 90 10 ∷ [])) ≡ 100000000000000000
-unfolding fed heard reported completed running bytesOf lostOf latest aged exactSum
+unfolding fed heard withReport completed withRunning bytesOf lostOf latest aged exactSum
 weighed = (refl, refl)

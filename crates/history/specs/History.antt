@@ -70,12 +70,12 @@ heldOr (some time) sent = time
 unfoldable pub completed : History → Pair → ℕ → History
 completed h p sent = record { pairs = take 15 (p ∷ h .pairs); running = nothing; packets = 0; time = some sent; on = h .on; count = h .count + 1 }
 
-unfoldable pub running : History → Pair → ℕ → ℕ → History
-running h p packets time = record { pairs = h .pairs; running = p; packets = packets; time = some time; on = h .on; count = h .count }
+unfoldable pub withRunning : History → Pair → ℕ → ℕ → History
+withRunning h p packets time = record { pairs = h .pairs; running = p; packets = packets; time = some time; on = h .on; count = h .count }
 
 -- "Where that send time exceeds the time by more than 250,000,000 ns, an observation completes"
-unfoldable pub reported : History → Pair → ℕ → ℕ → ℕ → History
-reported h p packets time sent = cond (ltb (time + 250000000) sent) (completed h p sent) (running h p packets time)
+unfoldable pub withReport : History → Pair → ℕ → ℕ → ℕ → History
+withReport h p packets time sent = cond (ltb (time + 250000000) sent) (completed h p sent) (withRunning h p packets time)
 
 -- ---- one call, and a list of them, oldest first
 
@@ -87,7 +87,7 @@ heard h (alr start) = switched h (isOn start)
 heard h (capacity rate) = h
 heard h (report times sizes flags delay) =
     cond (eqb (length times) 0) h
-    (reported h (added (h .running) sizes flags) (h .packets + length times) (heldOr (h .time) (latest times)) (latest times))
+    (withReport h (added (h .running) sizes flags) (h .packets + length times) (heldOr (h .time) (latest times)) (latest times))
 heard h read = h
 
 -- "Refused [..]: no change"

@@ -1,7 +1,8 @@
 pub mod Calls
 pub mod History
-pub mod Window
+pub mod WeighedPairs
 pub mod Run
 pub mod Demand
 pub mod Refusals
+pub mod Unrefused
 mod Examples

@@ -26,6 +26,7 @@ use Rattle.logarithm.proofs.Logarithms.{logarithm-between}
 use Rattle.rounding.specs.Plain.{plain}
 use Rattle.rounding.proofs.Operations.{sub-is, div-is, lt-is}
 use Rattle.rounding.proofs.Order.{Under, under-of-not-lt, round-under}
+use Rattle.rounding.proofs.Upward.{upward-plain}
 use Rattle.likelihood.specs.Probability.{least, congested, probability}
 use Rattle.likelihood.proofs.Probability.{difference-taken}
 
@@ -81,9 +82,6 @@ plain-exact (fin false m e) p f =
 
 value-finite : (x : Float) (a c : ℕ) → HasValue x false a c → T (finite x)
 value-finite (fin s m e) a c v = tt
-
-upward-plain : (x : Float) → T (upward x) → T (finite x) → T (plain x)
-upward-plain (fin s m e) u f = u
 
 -- the difference is no more than s, so it is finite, and divided by s it is 1 at most
 share-finite : (s l : Float) → T (fits binary64 s) → T (finite s) → T (finite l) → T (upward l) → lt l s ≡ true → T (finite ((s ⊖ l) ⊘ s))

@@ -5,3 +5,4 @@ pub mod Sizes
 pub mod Sums
 pub mod Added
 pub mod Sent
+pub mod NotNegativeLimit

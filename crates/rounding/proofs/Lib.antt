@@ -3,6 +3,7 @@ pub mod Round
 pub mod Operations
 pub mod Near
 pub mod Order
+pub mod Upward
 pub mod Weight
 pub mod Sums
 pub mod Ratio
