@@ -1,8 +1,9 @@
 -- Worked examples of the definitions beside this file, which antt computes. They test the definitions; no proof cites them.
 use Prim.Native.Nat.{ℕ, _+_, _-_, _^_}
 use mathlib.Core.Path.{_≡_, refl}
-use mathlib.Core.List.{List, [], _∷_, map}
+use mathlib.Core.List.{List, [], _∷_, _++_, map}
 use lib.IntN.{ℤ, pos, negsuc}
+use lib.ListN.{replicate}
 use lib.Ieee.{add, div, eq, inFloat, le, lt, mul, ofBits, ofInt, round, sub, toSigned, toUnsigned}
 use Rattle.float.specs.Rounded.{bits}
 use Rattle.float.specs.Rust.{ceiling, halfAway}
@@ -16,19 +17,35 @@ use Rattle.bandwidth.specs.declared.RateAnswer.{RateAnswer}
 use Rattle.bandwidth.specs.declared.SizeAnswer.{SizeAnswer}
 use Rattle.bandwidth.specs.declared.OptionBitrate.the-variants.{Some, None}
 
--- rates by their bits: -infinity, -1, -0.0, 0.0, 1, 2, infinity, NaN
+-- ---- rates
+
 abbrev bps : ℕ → Bitrate
 bps b = Rate.rate (bits b)
 
+abbrev leastRate : Bitrate
+leastRate = bps 0xFFF0000000000000
+
+abbrev infinite : Bitrate
+infinite = bps 0x7FF0000000000000
+
+abbrev notANumber : Bitrate
+notANumber = bps 0x7FF8000000000000
+
+abbrev minusOne : Bitrate
+minusOne = bps 0xBFF0000000000000
+
+abbrev one : Bitrate
+one = bps 0x3FF0000000000000
+
+abbrev two : Bitrate
+two = bps 0x4000000000000000
+
+-- minus infinity, -1, -0.0, 0.0, 1, 2, infinity, NaN
 abbrev rates : List Bitrate
-rates =
-    map bps
-    (0xFFF0000000000000 ∷ 0xBFF0000000000000 ∷ 0x8000000000000000 ∷ 0 ∷ 0x3FF0000000000000 ∷ 0x4000000000000000 ∷ 0x7FF0000000000000 ∷ 0x7FF8000000000000 ∷ [])
+rates = leastRate ∷ minusOne ∷ bps 0x8000000000000000 ∷ bps 0 ∷ one ∷ two ∷ infinite ∷ notANumber ∷ []
 
-abbrev taken : ℕ → RateAnswer
-taken b = Rate.answered (bps b)
-
--- ---- rates
+abbrev taken : Bitrate → RateAnswer
+taken = Rate.answered
 
 -- a whole number above 2^53 goes to the nearest float, a tie to the even one: 2^53 + 1 down, 2^53 + 3 up; u64::MAX is the constant MAX
 nearest-examples :
@@ -38,7 +55,7 @@ unfolding ofBits ofInt
 nearest-examples = refl
 
 -- 2^64 - 1 bit/s, and one more
-whole-examples : map Rate.wholeRate ((2 ^ 64 - 1) ∷ (2 ^ 64) ∷ []) ≡ taken 0x43F0000000000000 ∷ Rate.refused ∷ []
+whole-examples : map Rate.wholeRate ((2 ^ 64 - 1) ∷ (2 ^ 64) ∷ []) ≡ taken (bps 0x43F0000000000000) ∷ Rate.refused ∷ []
 unfolding ofBits ofInt Rate.wholeRate
 whole-examples = refl
 
@@ -52,29 +69,25 @@ upwards-examples = (refl, refl)
 
 -- valid: all but the infinities and NaN
 valid-examples :
-    map Rate.valid rates ≡
-    None ∷ Some (bps 0xBFF0000000000000) ∷ Some (bps 0x8000000000000000) ∷ Some (bps 0) ∷ Some (bps 0x3FF0000000000000) ∷ Some (bps 0x4000000000000000) ∷ None ∷ None ∷ []
+    map Rate.valid rates ≡ None ∷ Some minusOne ∷ Some (bps 0x8000000000000000) ∷ Some (bps 0) ∷ Some one ∷ Some two ∷ None ∷ None ∷ []
 unfolding ofBits Rate.valid
 valid-examples = refl
 
--- 1, infinity, -infinity and NaN, each minus each rate: infinity minus itself is NaN, and taken, since it is at least itself
+-- 1, infinity, minus infinity and NaN, each minus each rate: infinity minus itself is NaN, and taken, since it is at least itself
 minus-examples :
-    map (Rate.minus (bps 0x3FF0000000000000)) rates ≡
-    taken 0x7FF0000000000000 ∷ taken 0x4000000000000000 ∷ taken 0x3FF0000000000000 ∷ taken 0x3FF0000000000000 ∷ taken 0 ∷ Rate.refused ∷ Rate.refused ∷ Rate.refused ∷ []
-    × map (Rate.minus (bps 0x7FF0000000000000)) rates ≡
-    taken 0x7FF0000000000000 ∷ taken 0x7FF0000000000000 ∷ taken 0x7FF0000000000000 ∷ taken 0x7FF0000000000000 ∷ taken 0x7FF0000000000000 ∷ taken 0x7FF0000000000000 ∷ taken 0x7FF8000000000000 ∷ Rate.refused ∷ []
-    × map (Rate.minus (bps 0xFFF0000000000000)) rates ≡
-    taken 0x7FF8000000000000 ∷ Rate.refused ∷ Rate.refused ∷ Rate.refused ∷ Rate.refused ∷ Rate.refused ∷ Rate.refused ∷ Rate.refused ∷ []
-    × map (Rate.minus (bps 0x7FF8000000000000)) rates ≡ map (λ r. Rate.refused) rates
+    map (Rate.minus one) rates ≡ map taken (infinite ∷ two ∷ one ∷ one ∷ bps 0 ∷ []) ++ replicate 3 Rate.refused
+    × map (Rate.minus infinite) rates ≡ replicate 6 (taken infinite) ++ (taken notANumber ∷ Rate.refused ∷ [])
+    × map (Rate.minus leastRate) rates ≡ taken notANumber ∷ replicate 7 Rate.refused
+    × map (Rate.minus notANumber) rates ≡ replicate 8 Rate.refused
 unfolding le ofBits sub Rate.minus
 minus-examples = (refl, refl, refl, refl)
 
--- each rate over 0.0 and over -0.0 is rate zero; 1 bit/s over -1, 2, the infinities and NaN
+-- each rate over 0.0 and over -0.0 is rate zero; 1 bit/s over -1, 2, infinity, minus infinity and NaN
 over-examples :
-    map (λ r. Rate.over r (bits 0)) rates ≡ map (λ r. Rate.zero) rates
-    × map (λ r. Rate.over r (bits 0x8000000000000000)) rates ≡ map (λ r. Rate.zero) rates
-    × map (λ b. Rate.over (bps 0x3FF0000000000000) (bits b)) (0xBFF0000000000000 ∷ 0x4000000000000000 ∷ 0x7FF0000000000000 ∷ 0xFFF0000000000000 ∷ 0x7FF8000000000000 ∷ []) ≡
-    map bps (0xBFF0000000000000 ∷ 0x3FE0000000000000 ∷ 0 ∷ 0x8000000000000000 ∷ 0x7FF8000000000000 ∷ [])
+    map (λ r. Rate.over r (bits 0)) rates ≡ replicate 8 Rate.zero
+    × map (λ r. Rate.over r (bits 0x8000000000000000)) rates ≡ replicate 8 Rate.zero
+    × map (λ (r : Bitrate). Rate.over one (r .bps)) (minusOne ∷ two ∷ infinite ∷ leastRate ∷ notANumber ∷ []) ≡
+    minusOne ∷ bps 0x3FE0000000000000 ∷ bps 0 ∷ bps 0x8000000000000000 ∷ notANumber ∷ []
 unfolding div eq ofBits Rate.over
 over-examples = (refl, refl, refl)
 
@@ -86,11 +99,10 @@ carried-examples :
 unfolding add div mul ofBits ofInt round toSigned halfAway seconds Rate.carried
 carried-examples = refl
 
--- 0 bit/s between 1 and 2, and between 2 and 1, NaN and 1, 1 and NaN
+-- 0 bit/s between 1 and 2; between infinity and 2, NaN and 2, 0 and NaN
 clamp-examples :
-    map (λ b. Rate.clamped (bps 0) (bps b) (bps 0x4000000000000000)) (0x3FF0000000000000 ∷ 0x7FF0000000000000 ∷ 0x7FF8000000000000 ∷ []) ≡
-    taken 0x3FF0000000000000 ∷ Rate.refused ∷ Rate.refused ∷ []
-    × Rate.clamped (bps 0) (bps 0) (bps 0x7FF8000000000000) ≡ Rate.refused
+    map (λ r. Rate.clamped (bps 0) r two) (one ∷ infinite ∷ notANumber ∷ []) ≡ taken one ∷ Rate.refused ∷ Rate.refused ∷ []
+    × Rate.clamped (bps 0) (bps 0) notANumber ≡ Rate.refused
 unfolding le lt ofBits clamped Rate.clamped
 clamp-examples = (refl, refl)
 
@@ -109,8 +121,8 @@ float-examples = (refl, refl)
 -- over a second, and over none: a size beyond is refused first
 seconds-examples :
     map (λ z. Size.over (Size.size z) (record { nanos = 1000000000 })) about-2-53 ≡
-    taken 0x4370000000000000 ∷ taken 0xC370000000000000 ∷ Rate.refused ∷ Rate.refused ∷ []
-    × map (λ z. Size.over (Size.size z) (record { nanos = 0 })) about-2-53 ≡ taken 0 ∷ taken 0 ∷ Rate.refused ∷ Rate.refused ∷ []
+    taken (bps 0x4370000000000000) ∷ taken (bps 0xC370000000000000) ∷ Rate.refused ∷ Rate.refused ∷ []
+    × map (λ z. Size.over (Size.size z) (record { nanos = 0 })) about-2-53 ≡ taken (bps 0) ∷ taken (bps 0) ∷ Rate.refused ∷ Rate.refused ∷ []
 unfolding add div eq inFloat mul ofBits ofInt seconds Rate.over Size.over
 seconds-examples = (refl, refl)
 
@@ -144,7 +156,7 @@ arithmetic-examples = (refl, refl, refl)
 times-examples :
     map (Size.timesUnsigned (Size.size (pos 1))) ((2 ^ 63 - 1) ∷ (2 ^ 63) ∷ []) ≡ bytes most ∷ Size.refused ∷ []
     × map (Size.timesUnsigned (Size.size (pos 0))) ((2 ^ 63 - 1) ∷ (2 ^ 63) ∷ []) ≡ bytes (pos 0) ∷ Size.refused ∷ []
-    × map (λ z. Size.timesSigned (Size.size least) z) (pos 1 ∷ negsuc 0 ∷ []) ≡ record { value = least; refusal = 0 } ∷ record { value = pos 0; refusal = 7 } ∷ []
+    × map (λ z. Size.sized (Size.timesSigned (Size.size least) z)) (pos 1 ∷ negsuc 0 ∷ []) ≡ bytes least ∷ Size.refused ∷ []
 unfolding inI64 fittedInteger Size.timesUnsigned Size.timesSigned
 times-examples = (refl, refl, refl)
 

@@ -34,6 +34,8 @@ fromSeconds nan = refused
 fromSeconds (inf s) = refused
 fromSeconds (fin s m e) = cond (lt (fin s m e) (bits 0)) refused (fitted (nearestNanos (fin s m e)))
 
+-- ---- what the code's private functions require of a fraction; no answer is defined by it
+
 -- a fraction of one: finite, below 1.0, and with no minus sign
 abbrev pub Proper : Float → Type 0
 Proper nan = ⊥

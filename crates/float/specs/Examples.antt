@@ -45,7 +45,8 @@ min-examples = (refl, refl, refl)
 
 max-examples :
     each (maximum (bits 0x7FF8000000000000)) (0x3FF0000000000000 ∷ []) ≡ 0x3FF0000000000000 ∷ []
-    × each (maximum (bits 0x3FF0000000000000)) (0x7FF8000000000000 ∷ 0x4000000000000000 ∷ 0 ∷ []) ≡ 0x3FF0000000000000 ∷ 0x4000000000000000 ∷ 0x3FF0000000000000 ∷ []
+    × each (maximum (bits 0x3FF0000000000000)) (0x7FF8000000000000 ∷ 0x4000000000000000 ∷ 0 ∷ []) ≡
+    0x3FF0000000000000 ∷ 0x4000000000000000 ∷ 0x3FF0000000000000 ∷ []
     × each (maximum (bits 0x8000000000000000)) (0 ∷ []) ≡ 0x8000000000000000 ∷ []
 unfolding each maximum ofBits toBits isNan lt
 max-examples = (refl, refl, refl)

@@ -88,16 +88,21 @@ since-table :
     × map (Time.since (Exact 5)) times ≡ PositiveInfinity ∷ Delta.zero ∷ NegativeInfinity ∷ []
     × map (Time.since (Exact 7)) times ≡ PositiveInfinity ∷ on 2 ∷ NegativeInfinity ∷ []
     × map (Time.since DistantFuture) times ≡ PositiveInfinity ∷ PositiveInfinity ∷ PositiveInfinity ∷ []
-    × Time.since (Exact 0) (Exact (2 ^ 64 - 1)) ≡ back (2 ^ 64 - 1)
 unfolding Delta.difference Time.since
-since-table = (refl, refl, refl, refl, refl, refl)
+since-table = (refl, refl, refl, refl, refl)
+
+abbrev first : Timestamp
+first = Exact 0
+
+abbrev last : Timestamp
+last = Exact (2 ^ 64 - 1)
 
 -- the first instant and the last: what comes to either, and one past it, forwards and backwards
 limit-examples :
-    map (Time.plus (Exact (2 ^ 64 - 1))) (on 0 ∷ on 1 ∷ back (2 ^ 64 - 1) ∷ []) ≡ Time.answered (Exact (2 ^ 64 - 1)) ∷ noTime ∷ Time.answered (Exact 0) ∷ []
-    × map (Time.plus (Exact 0)) (back 0 ∷ back 1 ∷ on (2 ^ 64 - 1) ∷ []) ≡ Time.answered (Exact 0) ∷ noTime ∷ Time.answered (Exact (2 ^ 64 - 1)) ∷ []
-    × map (Time.minus (Exact (2 ^ 64 - 1))) (back 0 ∷ back 1 ∷ on (2 ^ 64 - 1) ∷ []) ≡ Time.answered (Exact (2 ^ 64 - 1)) ∷ noTime ∷ Time.answered (Exact 0) ∷ []
-    × map (Time.minus (Exact 0)) (on 0 ∷ on 1 ∷ back (2 ^ 64 - 1) ∷ []) ≡ Time.answered (Exact 0) ∷ noTime ∷ Time.answered (Exact (2 ^ 64 - 1)) ∷ []
+    map (Time.plus last) (on 0 ∷ on 1 ∷ back (2 ^ 64 - 1) ∷ []) ≡ Time.answered last ∷ noTime ∷ Time.answered first ∷ []
+    × map (Time.plus first) (back 0 ∷ back 1 ∷ on (2 ^ 64 - 1) ∷ []) ≡ Time.answered first ∷ noTime ∷ Time.answered last ∷ []
+    × map (Time.minus last) (back 0 ∷ back 1 ∷ on (2 ^ 64 - 1) ∷ []) ≡ Time.answered last ∷ noTime ∷ Time.answered first ∷ []
+    × map (Time.minus first) (on 0 ∷ on 1 ∷ back (2 ^ 64 - 1) ∷ []) ≡ Time.answered first ∷ noTime ∷ Time.answered last ∷ []
 unfolding Nanos.fitted Nanos.minus Delta.negated Time.plus Time.minus
 limit-examples = (refl, refl, refl, refl)
 
