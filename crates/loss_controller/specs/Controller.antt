@@ -20,7 +20,13 @@ initial =
     record {
       observations = cleared 0;
       estimator = Update.initial;
-      inputs = record { «acknowledged_bitrate» = Rate.rate (inf false); «delay_based_estimate» = Rate.rate (inf false); «alr_start_time» = Off; «link_capacity_estimate» = None };
+      inputs =
+          record {
+            «acknowledged_bitrate» = Rate.rate (inf false);
+            «delay_based_estimate» = Rate.rate (inf false);
+            «alr_start_time» = Off;
+            «link_capacity_estimate» = None;
+          };
     }
 
 -- ---- answers

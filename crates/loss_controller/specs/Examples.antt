@@ -56,7 +56,8 @@ ten-to-15 = refl
 -- 0, 10^15, the next float, infinity, a NaN; -0.0, -1.0, minus infinity
 rates :
     map (λ n. Setters.rateRefusal (Rate.rate (bits n)))
-    (0 ∷ 0x430C6BF526340000 ∷ 0x430C6BF526340001 ∷ 0x7FF0000000000000 ∷ 0xFFF8000000000001 ∷ 0x8000000000000000 ∷ 0xBFF0000000000000 ∷ 0xFFF0000000000000 ∷ []) ≡
+    (0 ∷ 0x430C6BF526340000 ∷ 0x430C6BF526340001 ∷ 0x7FF0000000000000 ∷ 0xFFF8000000000001 ∷ 0x8000000000000000 ∷ 0xBFF0000000000000
+    ∷ 0xFFF0000000000000 ∷ []) ≡
     0 ∷ 0 ∷ 2 ∷ 0 ∷ 0 ∷ 2 ∷ 2 ∷ 0 ∷ []
 unfolding Setters.rateRefusal signBit lt ofBits toBits
 rates = refl
@@ -145,5 +146,21 @@ afterReport c times sizes flags = Report.updateBandwidthEstimate c times sizes f
 decreasing :
     line (afterReport (afterReport told (0 ∷ []) (1200 ∷ []) (0 ∷ [])) (300000000 ∷ 300000001 ∷ []) (60000 ∷ 9000 ∷ []) (0 ∷ 1 ∷ [])) ≡
     2 ∷ 4580551374841200862 ∷ 1 ∷ 4698242737114942079 ∷ []
-unfolding line Bias.adjusted Bias.bias Feasible.upperBound Feasible.feasible Newton.safe Newton.addDerivatives Newton.derivatives Newton.newton Objective.addTerms Objective.objective Probability.congested Probability.probability Ln.logarithmOfBits Ln.logarithm Power.powerSteps Power.power Power.weight Bound.atMost Bound.capacity Bound.inWindow Bound.acceleration Bound.upperBound Candidate.scaled Candidate.above Candidate.bandwidths Candidate.cut Candidate.candidate Candidate.placed Candidate.candidates Choice.judged Choice.better Choice.answered Choice.used Choice.choice Hold.twice Hold.doubled Hold.entered Increase.notIncreasedAboveInherentLoss Increase.isEstimateIncreasingWhenLossLimited Increase.rampupFactor Increase.withinRampup Increase.rampedUp Increase.increaseLimitedDueToLoss Increase.increaseLimited Update.withReductionNoted Update.isInHold Update.held Update.isLimiting Update.newState Update.newHoldInfo Update.withNewState Update.decided Update.updated Update.applied Recovery.windowEnd Recovery.isAboveLimit Recovery.bounded Recovery.isOver Recovery.opened Recovery.renewed Delta.difference Delta.inSeconds Delta.order Delta.rate Delta.larger Delta.plus Time.since Time.plus Time.order Nanos.fitted Ratio.age Ratio.window Ratio.readable Ratio.averageReportedLossRatio Ratio.instantLimit Ratio.instantUpperBound Ratio.validOrMax Ratio.cached Rows.rowOf Rows.rows Window.cleared Window.reference Window.completes Window.full Window.observed Window.stored Window.withCeiling Window.withPartial Window.renewed Window.completed Window.added Partial.updated Rate.over Rate.smaller Rate.larger Rate.times Rate.plus Rate.minus Size.kilobytes Size.float Fitted.ordered Fitted.fitted Fitted.inI64 Seconds.seconds Seconds.nearestNanos Seconds.fromSeconds Loss.lossRatio Loss.lossCeiling Answer.clamped Report.bounds Report.report Report.updatedEstimator Report.hasValidEstimate Report.observed Report.withDelayBasedEstimate Report.reported Report.updateBandwidthEstimate Setters.rateRefusal Setters.setBandwidthEstimate Setters.setAcknowledgedBitrate columnsRefusal packets packetRefusal addPacket summaryOf withObservations withEstimator withInputs maximum minimum signBit add div eq inFloat isNan le lt mul ofBits ofInt sub toBits Rattle.float.specs.Rust.magnitude
+unfolding line Bias.adjusted Bias.bias Feasible.upperBound Feasible.feasible Newton.safe Newton.addDerivatives Newton.derivatives Newton.newton
+    Objective.addTerms Objective.objective Probability.congested Probability.probability Ln.logarithmOfBits Ln.logarithm Power.powerSteps Power.power
+    Power.weight Bound.atMost Bound.capacity Bound.inWindow Bound.acceleration Bound.upperBound Candidate.scaled Candidate.above Candidate.bandwidths
+    Candidate.cut Candidate.candidate Candidate.placed Candidate.candidates Choice.judged Choice.better Choice.answered Choice.used Choice.choice
+    Hold.twice Hold.doubled Hold.entered Increase.notIncreasedAboveInherentLoss Increase.isEstimateIncreasingWhenLossLimited Increase.rampupFactor
+    Increase.withinRampup Increase.rampedUp Increase.increaseLimitedDueToLoss Increase.increaseLimited Update.withReductionNoted
+    Update.isInHold Update.held Update.isLimiting Update.newState Update.newHoldInfo Update.withNewState Update.decided Update.updated Update.applied
+    Recovery.windowEnd Recovery.isAboveLimit Recovery.bounded Recovery.isOver Recovery.opened Recovery.renewed Delta.difference Delta.inSeconds
+    Delta.order Delta.rate Delta.larger Delta.plus Time.since Time.plus Time.order Nanos.fitted Ratio.age Ratio.window Ratio.readable
+    Ratio.averageReportedLossRatio Ratio.instantLimit Ratio.instantUpperBound Ratio.validOrMax Ratio.cached Rows.rowOf Rows.rows Window.cleared
+    Window.reference Window.completes Window.full Window.observed Window.stored Window.withCeiling Window.withPartial Window.renewed Window.completed
+    Window.added Partial.updated Rate.over Rate.smaller Rate.larger Rate.times Rate.plus Rate.minus Size.kilobytes Size.float Fitted.ordered
+    Fitted.fitted Fitted.inI64 Seconds.seconds Seconds.nearestNanos Seconds.fromSeconds Loss.lossRatio Loss.lossCeiling Answer.clamped Report.bounds
+    Report.report Report.updatedEstimator Report.hasValidEstimate Report.observed Report.withDelayBasedEstimate Report.reported
+    Report.updateBandwidthEstimate Setters.rateRefusal Setters.setBandwidthEstimate Setters.setAcknowledgedBitrate columnsRefusal packets
+    packetRefusal addPacket summaryOf withObservations withEstimator withInputs maximum minimum signBit add div eq inFloat isNan le lt mul ofBits
+    ofInt sub toBits Rattle.float.specs.Rust.magnitude
 decreasing = refl

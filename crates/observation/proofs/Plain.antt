@@ -37,7 +37,8 @@ unfolding completes Time.since Delta.difference Delta.order
 completes-after last time = go (ltb last time) refl
   where
     go : (p : Bool) → ltb last time ≡ p
-        → isGt (Delta.order (cond p (Negative (Delta.span (time - last))) (Positive (Delta.span (last - time)))) (Positive (Delta.span 250000000))) ≡ ltb (time + 250000000) last
+        → isGt (Delta.order (cond p (Negative (Delta.span (time - last))) (Positive (Delta.span (last - time)))) (Positive (Delta.span 250000000)))
+        ≡ ltb (time + 250000000) last
     go true h = unfold Delta.order in sym (le-ltb (time + 250000000) last (omega (arith, ltb-true last time h)))
     go false h = unfold Delta.order in (above (last - time) 250000000 ∙ moved (ltb (time + 250000000) last) refl)
       where

@@ -38,7 +38,8 @@ sums-end : (count : ℕ) (total lost : Float) (os : List Observation) → foldl 
 unfolding summed window readable
 sums-end count total lost [] = refl
 sums-end count total lost (o ∷ os) =
-    go (o .«is_initialized») (floats o) refl refl (sums-end count (addWeighted total-of total (measured count o)) (addWeighted lost-of lost (measured count o)) os) (sums-end count total lost os)
+    go (o .«is_initialized») (floats o) refl refl
+    (sums-end count (addWeighted total-of total (measured count o)) (addWeighted lost-of lost (measured count o)) os) (sums-end count total lost os)
   where
     go : (b f : Bool) → o .«is_initialized» ≡ b → floats o ≡ f
         → foldl (summed count) (sums (addWeighted total-of total (measured count o)) (addWeighted lost-of lost (measured count o))) os

@@ -20,7 +20,8 @@ use Rattle.packets.specs.declared.PacketResultsSummary.{PacketResultsSummary}
 use Rattle.likelihood.specs.declared.Row.{Row}
 use Rattle.observation.specs.Partial as Partial
 use Rattle.observation.specs.Ratio.{age, window, readable, averageReportedLossRatio, highLossLimit, instantLimit, instantUpperBound, validOrMax, cached}
-use Rattle.observation.specs.Window.{dummy, cleared, reference, completes, full, observed, stored, withCeiling, withPartial, renewed, completed, unchanged, added}
+use Rattle.observation.specs.Window.{dummy, cleared, reference, completes, full, observed, stored, withCeiling, withPartial, renewed, completed}
+use Rattle.observation.specs.Window.{unchanged, added}
 use Rattle.observation.specs.Rows.{rowOf}
 use Rattle.observation.specs.declared.Observation.{Observation}
 use Rattle.observation.specs.declared.Observations.{Observations}
@@ -56,7 +57,9 @@ three-reports : three .«num_observations» ≡ 2
     × three .«last_send_time_most_recent_observation» ≡ Exact 1500000006
     × three .«partial_observation» ≡ Partial.none
     × toBits binary64 (cached (three .«cached_instant_upper_bound») .bps) ≡ 0x4132EAF2B8C0337F
-unfolding add div eq inFloat lt mul ofBits ofInt sub toBits seconds ordered Rate.over Delta.difference Delta.inSeconds Delta.order Delta.rate Time.since weight lossRatio Partial.updated age window readable averageReportedLossRatio lossCeiling instantLimit instantUpperBound validOrMax cached cleared reference completes full observed stored withCeiling withPartial renewed completed added
+unfolding add div eq inFloat lt mul ofBits ofInt sub toBits seconds ordered Rate.over Delta.difference Delta.inSeconds Delta.order Delta.rate
+    Time.since weight lossRatio Partial.updated age window readable averageReportedLossRatio lossCeiling instantLimit instantUpperBound validOrMax
+    cached cleared reference completes full observed stored withCeiling withPartial renewed completed added
 three-reports = (refl, refl, refl, refl)
 
 -- a summary of no packets changes nothing, whatever else it says: neither the reference time where there is none yet, nor the running sums, nor the count
@@ -115,7 +118,8 @@ unfolding slots add div eq inFloat mul ofBits ofInt toBits weight lossRatio age 
 ratio-example = refl
 
 ceiling-example : toBits binary64 (instantUpperBound later .rate .bps) ≡ 0x412738E4443DA647
-unfolding slots add div eq inFloat lt mul ofBits ofInt sub toBits Rate.over weight lossRatio age window readable averageReportedLossRatio lossCeiling instantLimit instantUpperBound
+unfolding slots add div eq inFloat lt mul ofBits ofInt sub toBits Rate.over weight lossRatio age window readable averageReportedLossRatio
+    lossCeiling instantLimit instantUpperBound
 ceiling-example = refl
 
 -- ---- the rows of slots 0, 1 and 2, whose ages are 1, 0 and 14: weight, lost, received and total

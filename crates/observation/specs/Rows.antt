@@ -24,7 +24,8 @@ emptyRow = record { «is_initialized» = false; weight = bits 0; lost = bits 0; 
 abbrev pub kilobytes : ℤ → Float
 kilobytes z = Size.kilobytes (Size.size z) .value
 
--- what `get_objective` and `newtons_method_update` read of an observation: its weight, `lost_size.as_kb()`, `(size - lost_size).as_kb()`, `size.as_kb()` and its rate
+-- what `get_objective` and `newtons_method_update` read of an observation: its weight, `lost_size.as_kb()`, `(size - lost_size).as_kb()`,
+-- `size.as_kb()` and its rate
 unfoldable pub rowOf : ℕ → Observation → Row
 rowOf count o =
     cond (o .«is_initialized»)

@@ -21,8 +21,10 @@ use Rattle.observation.specs.declared.AddedAnswer.{AddedAnswer}
 -- two reports, so many ns apart, of 1,000 bytes together, of which the second's are lost
 abbrev after : ℕ → ℕ → AddedAnswer
 after span lost =
-    let received : PacketResultsSummary = record { «num_packets» = 1; «num_lost_packets» = 0; «total_size» = 1000 - lost; «lost_size» = 0; «last_send_time» = 7 } in
-    let gone : PacketResultsSummary = record { «num_packets» = 1; «num_lost_packets» = 1; «total_size» = lost; «lost_size» = lost; «last_send_time» = 7 + span } in
+    let received : PacketResultsSummary =
+    record { «num_packets» = 1; «num_lost_packets» = 0; «total_size» = 1000 - lost; «lost_size» = 0; «last_send_time» = 7 } in
+    let gone : PacketResultsSummary =
+    record { «num_packets» = 1; «num_lost_packets» = 1; «total_size» = lost; «lost_size» = lost; «last_send_time» = 7 + span } in
     added (added (cleared 0) received .observations) gone
 
 -- the ceiling that is read then, as the bits of its rate
@@ -38,5 +40,7 @@ starred =
     (claim (ceiling (after 250000001 100)) 0x413E848000000000 none)))
 
 pub starred-hold : Hold starred
-unfolding add div eq inFloat lt mul ofBits ofInt sub toBits seconds ordered Rate.over Delta.difference Delta.inSeconds Delta.order Delta.rate Time.since weight lossRatio updated age window readable averageReportedLossRatio lossCeiling instantLimit instantUpperBound validOrMax cached cleared reference completes full observed stored withCeiling withPartial renewed completed added
+unfolding add div eq inFloat lt mul ofBits ofInt sub toBits seconds ordered Rate.over Delta.difference Delta.inSeconds Delta.order Delta.rate
+    Time.since weight lossRatio updated age window readable averageReportedLossRatio lossCeiling instantLimit instantUpperBound validOrMax cached
+    cleared reference completes full observed stored withCeiling withPartial renewed completed added
 starred-hold = (refl, (refl, (refl, (refl, tt))))

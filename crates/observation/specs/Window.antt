@@ -157,5 +157,6 @@ added o s =
     (cond (eqb (running .refusal) 10) (refused o 10)
     (cond (full o span) (refused o 11)
     (cond (eqb (running .refusal) 0)
-    (cond (completes span) (completed o (running .partial) span last) (record { observations = withPartial o (running .partial) from; completed = false; refusal = 0 }))
+    (cond (completes span) (completed o (running .partial) span last)
+    (record { observations = withPartial o (running .partial) from; completed = false; refusal = 0 }))
     (refused o (running .refusal)))))

@@ -58,7 +58,11 @@ flags ps = map (λ (p : PacketResult). p .lost) ps
 pub columns-even : (ps : List PacketResult) → columnsRefusal (times ps) (sizes ps) (flags ps) ≡ cond (leb (length ps) mostPackets) 0 5
 unfolding columnsRefusal
 columns-even ps =
-    simp (length-map ps (λ (p : PacketResult). p .«local_send_time»), length-map ps (λ (p : PacketResult). p .size), length-map ps (λ (p : PacketResult). p .lost))
+    simp (
+      length-map ps (λ (p : PacketResult). p .«local_send_time»),
+      length-map ps (λ (p : PacketResult). p .size),
+      length-map ps (λ (p : PacketResult). p .lost),
+    )
     (simp (eq-eqb (length ps) (length ps) refl))
 
 -- and tell of those packets
@@ -128,7 +132,8 @@ answer time n m bytes lost =
 module _ (time : ℕ) (early : time ≤ latestTime) where
   -- a packet of that time more
   one-more : (n m t l bytes flag : ℕ) → flag ≤ 1
-      → addPacket (answer time n m t l) (record { «local_send_time» = time; size = bytes; lost = flag }) ≡ answer time (n + 1) (m + flag) (t + bytes) (l + bytes * flag)
+      → addPacket (answer time n m t l) (record { «local_send_time» = time; size = bytes; lost = flag }) ≡ answer time (n + 1) (m + flag) (t + bytes)
+      (l + bytes * flag)
   unfolding addPacket packetRefusal
   one-more n m t l bytes flag h = rw (le-leb time latestTime early, le-leb flag 1 h, later-same time) refl
 
@@ -141,7 +146,8 @@ module _ (time : ℕ) (early : time ≤ latestTime) where
 
   -- packets with one flag, then others
   spread-fold : (flag k bytes n m t l : ℕ) (ps : List PacketResult) → flag ≤ 1 → bytes ≤ largestPacket * k
-      → foldl addPacket (answer time n m t l) (spread time flag k bytes ps) ≡ foldl addPacket (answer time (n + k) (m + k * flag) (t + bytes) (l + bytes * flag)) ps
+      → foldl addPacket (answer time n m t l) (spread time flag k bytes ps) ≡ foldl addPacket
+      (answer time (n + k) (m + k * flag) (t + bytes) (l + bytes * flag)) ps
   unfolding spread
   spread-fold flag zero bytes n m t l ps f h =
       let z : bytes ≡ 0 = omega arith in

@@ -50,7 +50,8 @@ not-refused times sizes flags = go (eqb (length sizes) (length times)) (eqb (len
     go true false r a b d h = absurd (omega arith)
     go false q r a b d h = absurd (omega arith)
 
-pub packets-length : (times sizes flags : List ℕ) → length sizes ≡ length times → length flags ≡ length times → length (packets times sizes flags) ≡ length times
+pub packets-length : (times sizes flags : List ℕ) → length sizes ≡ length times → length flags ≡ length times
+    → length (packets times sizes flags) ≡ length times
 unfolding packets
 packets-length [] sizes flags h k = refl
 packets-length (t ∷ ts) [] flags h k = absurd (omega arith)
@@ -202,8 +203,8 @@ within-more n a p size w =
 pub of-report : (s : PacketResultsSummary) → TotalsOf mostPackets s → isOfReport s ≡ true
 unfolding isOfReport
 of-report s w =
-    rw (le-leb _ _ (w .packets-within), le-leb _ _ (w .lost-packets-within), le-leb _ _ (w .lost-size-within), le-leb _ _ (w .lost-within), le-leb _ _ (w .others-within))
-    (go (s .«num_packets») refl)
+    rw (le-leb _ _ (w .packets-within), le-leb _ _ (w .lost-packets-within), le-leb _ _ (w .lost-size-within))
+    (rw (le-leb _ _ (w .lost-within), le-leb _ _ (w .others-within)) (go (s .«num_packets») refl))
   where
     go : (n : ℕ) → s .«num_packets» ≡ n → ltb 0 (s .«num_packets») || eqb (s .«last_send_time») 0 ≡ true
     go zero e = rw (e, w .timed e) refl
@@ -233,4 +234,6 @@ totals-of s e =
 -- one packet more is `addPacket` on the totals of fewer than 4,096 packets
 pub added-is : (a : SummaryAnswer) (p : PacketResult) → TotalsOf 4095 (a .summary) → added a p ≡ addPacket a p
 unfolding added
-added-is a p w = rw (of-report (a .summary) (within-larger _ (lit≤ tt) w), lt-ltb (a .summary .«num_packets») mostPackets (omega (arith, w .packets-within))) refl
+added-is a p w =
+    rw (of-report (a .summary) (within-larger _ (lit≤ tt) w))
+    (rw (lt-ltb (a .summary .«num_packets») mostPackets (omega (arith, w .packets-within))) refl)

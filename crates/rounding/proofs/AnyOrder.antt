@@ -14,7 +14,8 @@ pub exact-perm : (size : Measured → ℕ) {os hs : List Measured} → List·Per
 unfolding exactSum
 exact-perm size List·Permᴰ·nil = refl
 exact-perm size (List·Permᴰ·cons e d) = cc (e, exact-perm size d)
-exact-perm size (List·Permᴰ·swap {a = a} {b = b} {l = l} e f) = rw (← e, ← f) (add-left-comm (exactWeight (a .age) * size a) (exactWeight (b .age) * size b) (exactSum size l))
+exact-perm size (List·Permᴰ·swap {a = a} {b = b} {l = l} e f) =
+    rw (← e, ← f) (add-left-comm (exactWeight (a .age) * size a) (exactWeight (b .age) * size b) (exactSum size l))
 exact-perm size (List·Permᴰ·trans d e) = exact-perm size d ∙ exact-perm size e
 
 pub sound-perm : {os hs : List Measured} → List·Permᴰ os hs → AllSound hs → AllSound os

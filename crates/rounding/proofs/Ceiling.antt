@@ -71,7 +71,8 @@ module _ {x : Float} {l t : ℕ} (near : Near 47 x l t) (part : l ≤ t) (most :
       let divisor : eq y (bits 0) ≡ false = rw (eq-zero y (difference-near .plainly)) (ne-eqb (num y) 0 (λ z. omega arith)) in
       let a : 100000 * (20 * t) ≤ 10 ^ 36 = omega arith in
       let b : d * 1 ≤ 10 ^ 30 = omega arith in
-      rw (divisor, lossCeiling, Rate.over) (div-near (lit≤ tt) some (ranged (omega (arith, some)) (le-trans a (lit≤ tt)) (le-trans b (lit≤ tt))) balance-near difference-near)
+      rw (divisor, lossCeiling, Rate.over)
+      (div-near (lit≤ tt) some (ranged (omega (arith, some)) (le-trans a (lit≤ tt)) (le-trans b (lit≤ tt))) balance-near difference-near)
 
   sets-ceiling : SetsCeiling x l t
   sets-ceiling =
@@ -87,7 +88,8 @@ module _ {x : Float} {l t : ℕ} (near : Near 47 x l t) (part : l ≤ t) (most :
 pub ratio-sets-ceiling : (os : List Measured) → AllSound os → length os ≤ 15 → 0 < exactTotal os → 6 * exactTotal os ≤ 100 * exactLost os
     → SetsCeiling (lossRatio os) (exactLost os) (exactTotal os)
 ratio-sets-ceiling os sound short some six =
-    sets-ceiling (ratio-near os sound short some) (lost-part os sound short) (total-bounded os sound short) six (20 * exactLost os - exactTotal os) (omega arith)
+    sets-ceiling (ratio-near os sound short some) (lost-part os sound short) (total-bounded os sound short) six (20 * exactLost os - exactTotal os)
+    (omega arith)
 
 -- ---- a rate that is no more than one under the ceiling is under it
 pub under-ceiling : {x y : Float} (l t : ℕ) → t ≤ 20 * l → Under y x → UnderCeiling x l t → UnderCeiling y l t

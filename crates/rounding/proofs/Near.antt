@@ -15,7 +15,8 @@ use lib.Ieee.Back.{round-whole}
 use lib.Ieee.Positive.{num, den, den-pos, first-pos}
 use Rattle.float.specs.Rounded.{_⊕_, _⊖_, _⊗_, _⊘_}
 use Rattle.rounding.specs.Plain.{plain}
-use Rattle.rounding.proofs.Parts.{lo, hi, Within, Share, within-same, within-sym, within-as, within-more, within-mul, within-add, within-scale, within-twice, within-share, share-within, share-order, share-sub}
+use Rattle.rounding.proofs.Parts.{lo, hi, Within, Share, within-same, within-sym, within-as, within-more, within-mul, within-add, within-scale}
+use Rattle.rounding.proofs.Parts.{within-twice, within-share, share-within, share-order, share-sub}
 use Rattle.rounding.proofs.Round.{Near, near-of-value, near-through, Ranged, round-near}
 use Rattle.rounding.proofs.Operations.{mul-is, add-is, sub-is, div-is, lt-is}
 
@@ -71,7 +72,8 @@ unfolding ofInt
 whole-near n h = near-exact (round binary64 false n 1) n 1 (round-whole binary64 false n h) (lit< tt)
 
 -- x ⊗ y beside p / q * r / s
-pub mul-near : {j k : ℕ} {x y : Float} {p q r s : ℕ} → j + k ≤ 2 ^ 52 → Ranged (p * r) (q * s) → Near j x p q → Near k y r s → Near (1 + (j + k)) (x ⊗ y) (p * r) (q * s)
+pub mul-near : {j k : ℕ} {x y : Float} {p q r s : ℕ} → j + k ≤ 2 ^ 52 → Ranged (p * r) (q * s) → Near j x p q → Near k y r s
+    → Near (1 + (j + k)) (x ⊗ y) (p * r) (q * s)
 mul-near {x = x} {y} {p} {q} {r} {s} few range a b =
     rw (mul-is x y (a .plainly) (b .plainly))
     (round-near (num x * num y) (den x * den y) few (mul-pos (den-pos x) (den-pos y)) (mul-pos (a .divisor) (b .divisor)) range
@@ -85,14 +87,16 @@ add-near {x = x} {y} {p} {r} {q} few range a b =
     (within-as (omega arith) (omega arith) (within-add (within-scale (den y) (a .parts)) (within-scale (den x) (b .parts)))))
 
 -- x ⊘ y beside (p / q) / (r / s)
-pub div-near : {j k : ℕ} {x y : Float} {p q r s : ℕ} → j + k ≤ 2 ^ 52 → 0 < r → Ranged (p * s) (r * q) → Near j x p q → Near k y r s → Near (1 + (j + k)) (x ⊘ y) (p * s) (r * q)
+pub div-near : {j k : ℕ} {x y : Float} {p q r s : ℕ} → j + k ≤ 2 ^ 52 → 0 < r → Ranged (p * s) (r * q) → Near j x p q → Near k y r s
+    → Near (1 + (j + k)) (x ⊘ y) (p * s) (r * q)
 div-near {x = x} {y} {p} {q} {r} {s} few R range a b =
     let Y : 0 < num y = near-pos (omega arith) R b in
     rw (div-is x y (a .plainly) (b .plainly) Y)
     (round-near (num x * den y) (num y * den x) few (mul-pos Y (den-pos x)) (mul-pos R (a .divisor)) range
     (within-as (omega arith) (omega arith) (within-mul (a .parts) (within-sym (b .parts)))))
 
--- A difference d = p - r that is 1 / c of p at least: k parts of the operands are less than 1 / n of them, so less than 2 * c / n of d, and that is K parts at most
+-- A difference d = p - r that is 1 / c of p at least: k parts of the operands are less than 1 / n of them, so less than 2 * c / n of d, and that is K
+-- parts at most
 pub record Cancels (k c n K : ℕ) : Type 0 where
   pub some : 0 < n
   pub enough : 2 * c ≤ n
@@ -114,7 +118,9 @@ module _ {k c n K : ℕ} {x y : Float} {p r q : ℕ} (can : Cancels k c n K) (d 
   part = omega (arith, mul-le-mul-right (den x * den y) h)
 
   gap : (z : ℕ) → z + num y * den x ≡ num x * den y → Within K (z * q) (d * (den x * den y))
-  gap z f = share-within K (can .some) (can .parts) (share-sub c (d * (den x * den y)) (can .some) (can .enough) exact part left right (z * q) (omega (arith, ap (λ (i : ℕ). i * q) f)))
+  gap z f =
+      share-within K (can .some) (can .parts)
+      (share-sub c (d * (den x * den y)) (can .some) (can .enough) exact part left right (z * q) (omega (arith, ap (λ (i : ℕ). i * q) f)))
 
   difference : num x * den y - num y * den x + num y * den x ≡ num x * den y
   difference =

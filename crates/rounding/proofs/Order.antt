@@ -1,4 +1,5 @@
--- The order of finite floats with a clear sign, zero included, as one of fractions: a rounding, a product and a sum keep it, and x / y is 1 at most for x ≤ y. Assumes nothing.
+-- The order of finite floats with a clear sign, zero included, as one of fractions: a rounding, a product and a sum keep it, and x / y is 1 at most
+-- for x ≤ y. Assumes nothing.
 use mathlib.Core.Path.{_≡_, refl}
 use mathlib.Core.Bool.{Bool, true, false, _&&_, _||_}
 use Prim.Native.Nat.{ℕ, _+_, _*_, _^_, _≤_, _<_}
@@ -44,13 +45,16 @@ cross-of-le (fin false m e) (fin false n d) p q = go (ltb a b) (eqb a b) (ltb→
     go false true h k u = le-of-eq (k tt)
 
 -- ---- what is kept
-pub round-under : (a b c d : ℕ) {x y : Float} → x ≡ round binary64 false a b → y ≡ round binary64 false c d → 0 < b → 0 < d → a * d ≤ c * b → T (plain x) → T (plain y) → Under x y
+pub round-under : (a b c d : ℕ) {x y : Float} → x ≡ round binary64 false a b → y ≡ round binary64 false c d → 0 < b → 0 < d → a * d ≤ c * b
+    → T (plain x) → T (plain y) → Under x y
 round-under a b c d {x} {y} e f B D h p q =
     let l : T (le x y) = rw (e, f) (round-mono binary64 a b c d B D h) in
     record { left = p; right = q; below = cross-of-le x y p q l }
 
 pub whole-under : (m n : ℕ) → m ≤ n → n ≤ 2 ^ 53 → Under (ofInt binary64 (pos m)) (ofInt binary64 (pos n))
-whole-under m n h l = round-under m 1 n 1 (whole m) (whole n) (lit< tt) (lit< tt) (mul-le-mul-right 1 h) (whole-near {k = 0} m (le-trans h l) .plainly) (whole-near {k = 0} n l .plainly)
+whole-under m n h l =
+    round-under m 1 n 1 (whole m) (whole n) (lit< tt) (lit< tt) (mul-le-mul-right 1 h) (whole-near {k = 0} m (le-trans h l) .plainly)
+    (whole-near {k = 0} n l .plainly)
   where
     whole : (n : ℕ) → ofInt binary64 (pos n) ≡ round binary64 false n 1
     whole n = unfold ofInt in refl
@@ -65,7 +69,8 @@ pub add-under : {x y x' y' : Float} → Under x x' → Under y y' → T (plain (
 add-under {x} {y} {x'} {y'} u v p q =
     let h : num x * den x' * (den y * den y') ≤ num x' * den x * (den y * den y') = mul-le-mul-right (den y * den y') (u .below) in
     let l : num y * den y' * (den x * den x') ≤ num y' * den y * (den x * den x') = mul-le-mul-right (den x * den x') (v .below) in
-    round-under (num x * den y + num y * den x) (den x * den y) (num x' * den y' + num y' * den x') (den x' * den y') (add-is x y (u .left) (v .left)) (add-is x' y' (u .right) (v .right))
+    round-under (num x * den y + num y * den x) (den x * den y) (num x' * den y' + num y' * den x') (den x' * den y')
+    (add-is x y (u .left) (v .left)) (add-is x' y' (u .right) (v .right))
     (mul-pos (den-pos x) (den-pos y)) (mul-pos (den-pos x') (den-pos y')) (omega arith) p q
 
 -- ---- x / y ≤ 1 for x ≤ y
@@ -76,7 +81,8 @@ one-is = refl
 pub div-under-one : {x y : Float} → Under x y → 0 < num y → T (plain (x ⊘ y)) → Under (x ⊘ y) (bits 0x3FF0000000000000)
 unfolding ofBits
 div-under-one {x} {y} u Y p =
-    round-under (num x * den y) (num y * den x) 1 1 (div-is x y (u .left) (u .right) Y) one-is (mul-pos Y (den-pos x)) (lit< tt) (flat (num x * den y) (num y * den x) (u .below)) p tt
+    round-under (num x * den y) (num y * den x) 1 1 (div-is x y (u .left) (u .right) Y) one-is (mul-pos Y (den-pos x)) (lit< tt)
+    (flat (num x * den y) (num y * den x) (u .below)) p tt
   where
     flat : (a b : ℕ) → a ≤ b → a * 1 ≤ 1 * b
     flat a b h = omega arith

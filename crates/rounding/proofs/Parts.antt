@@ -1,5 +1,6 @@
 -- A distance between whole numbers. One part is a factor of (2 ^ 53 + 1) / 2 ^ 53, and `Within k u v` says that u and v differ by k parts at most, either way.
--- It adds up along a chain and over a product, and a sum has the larger one of its two. For a fraction a / c beside p / q it is put to use as `Within k (a * q) (p * c)`. Assumes nothing.
+-- It adds up along a chain and over a product, and a sum has the larger one of its two. For a fraction a / c beside p / q it is put to use as `Within
+-- k (a * q) (p * c)`. Assumes nothing.
 use mathlib.Core.Path.{_≡_, refl, ap}
 use Prim.Native.Nat.{ℕ, zero, suc, _+_, _-_, _*_, _^_, _≤_, _<_}
 use native.Mathlib.Nat.{le-refl, mul-le-mul, mul-le-mul-left, mul-le-mul-right, le-of-mul-le-mul-right, pow-le-pow-left, one-le-pow, pow-suc, add-sub-of-le}

@@ -1,10 +1,12 @@
--- A float k parts at most from a fraction (`Near`), and one rounding of binary64: in the normal range, but for its last two binades, it moves a fraction by one part at most.
+-- A float k parts at most from a fraction (`Near`), and one rounding of binary64: in the normal range, but for its last two binades, it moves a
+-- fraction by one part at most.
 -- Assumes nothing.
 use mathlib.Core.Path.{_≡_, refl, sym, ap, _∙_}
 use mathlib.Core.Logic.{inl, inr}
 use mathlib.Core.Bool.{true, false, not, true≢false}
 use Prim.Native.Nat.{ℕ, _+_, _-_, _*_, _/_, _%_, _^_, _≤_, _<_, compare, Ordering, Ordering·lt, Ordering·eq, Ordering·gt}
-use native.Mathlib.Nat.{le-trans, le-of-eq, lt-of-le-of-lt, mul-right-comm, mul-le-mul-left, mul-le-mul-right, le-of-mul-le-mul-right, mul-pos, mod-lt, div-add-mod', le-div-iff-mul-le, zero-mul, eq-zero-or-pos}
+use native.Mathlib.Nat.{le-trans, le-of-eq, lt-of-le-of-lt, mul-right-comm, mul-le-mul-left, mul-le-mul-right, le-of-mul-le-mul-right, mul-pos}
+use native.Mathlib.Nat.{mod-lt, div-add-mod', le-div-iff-mul-le, zero-mul, eq-zero-or-pos}
 use native.Mathlib.Omega.{arith}
 use lib.Dec.{T, isLe, isEq, leb→le, nleb→lt, eqb→eq, lit≤, lit<}
 use lib.Pow.{pow-add, pow-pos}
@@ -26,7 +28,8 @@ half Ordering·eq q r u n a b c e l = let h = c tt in let p : q % 2 * u ≤ 1 * 
 half Ordering·gt q r u n a b c e l = let h = b tt in omega arith
 
 closest-near : (n u : ℕ) → 0 < u → (closest n u * u * 2 ≤ n * 2 + u) × (n * 2 ≤ closest n u * u * 2 + u)
-closest-near n u U = half (compare (n % u * 2) u) (n / u) (n % u) u n (leb→le (n % u * 2) u) (nleb→lt (n % u * 2) u) (eqb→eq (n % u * 2) u) (div-add-mod' n u) (mod-lt n U)
+closest-near n u U =
+    half (compare (n % u * 2) u) (n / u) (n % u) u n (leb→le (n % u * 2) u) (nleb→lt (n % u * 2) u) (eqb→eq (n % u * 2) u) (div-add-mod' n u) (mod-lt n U)
 
 -- ---- g units of t / c, where g and n are H of them at least: half a unit is one part in 2 * H of either
 parts : (n g t c H : ℕ) → (g * (c * t) * 2 ≤ n * 2 + c * t) × (n * 2 ≤ g * (c * t) * 2 + c * t) → H * (c * t) ≤ n → H ≤ g
@@ -39,7 +42,8 @@ parts n g t c H (x, y) a b =
 
 -- where the whole part of n / c has p digits at least, p of them are kept
 kept-parts : (p n c : ℕ) → 0 < p → 0 < c → p ≤ size (n / c)
-    → (kept p n c * 2 ^ drop p n c * c * (2 * 2 ^ (p - 1)) ≤ n * (2 * 2 ^ (p - 1) + 1)) × (n * (2 * 2 ^ (p - 1)) ≤ kept p n c * 2 ^ drop p n c * c * (2 * 2 ^ (p - 1) + 1))
+    → (kept p n c * 2 ^ drop p n c * c * (2 * 2 ^ (p - 1)) ≤ n * (2 * 2 ^ (p - 1) + 1))
+    × (n * (2 * 2 ^ (p - 1)) ≤ kept p n c * 2 ^ drop p n c * c * (2 * 2 ^ (p - 1) + 1))
 kept-parts p n c P C N =
     let k = drop p n c in
     let u = c * 2 ^ k in
@@ -69,7 +73,8 @@ near-of-value x g l p q v L Q w =
     record {
       plainly = plain-of-value x g l v;
       divisor = Q;
-      parts = within-cancel l L (within-as (mul-right-comm g q (den x) ∙ sym e ∙ mul-right-comm (num x) l q) (mul-right-comm p l (den x)) (within-scale (den x) w));
+      parts =
+          within-cancel l L (within-as (mul-right-comm g q (den x) ∙ sym e ∙ mul-right-comm (num x) l q) (mul-right-comm p l (den x)) (within-scale (den x) w));
     }
 
 -- p / q through another fraction a / c
@@ -77,7 +82,11 @@ pub near-through : {j k : ℕ} {x : Float} {a c p q : ℕ} → 0 < q → Within 
 near-through {x = x} {a} {c} {p} {q} Q w n =
     let first = within-as refl (mul-right-comm a (den x) q) (within-scale q (n .parts)) in
     let both = within-through first (within-scale (den x) w) in
-    record { plainly = n .plainly; divisor = Q; parts = within-cancel c (n .divisor) (within-as (mul-right-comm (num x) c q) (mul-right-comm p c (den x)) both) }
+    record {
+      plainly = n .plainly;
+      divisor = Q;
+      parts = within-cancel c (n .divisor) (within-as (mul-right-comm (num x) c q) (mul-right-comm p c (den x)) both);
+    }
 
 -- ---- binary64
 -- a fraction from 2 ^ -1022 to 2 ^ 1022 is rounded by one part at most
@@ -85,7 +94,8 @@ pub round-normal : (a c : ℕ) → 0 < c → a ≤ c * 2 ^ 1022 → c ≤ a * 2 
 round-normal a c C most least =
     let g = grid binary64 a c in
     let l = 2 ^ 1074 in
-    let w : Within 1 (g * c) (a * l) = within-one (kept-parts 53 (a * l) c (lit< tt) C (normal-of-fraction binary64 a c C (normal (2 ^ 52) l (2 ^ 1022) (lit≤ tt) least))) in
+    let w : Within 1 (g * c) (a * l) =
+    within-one (kept-parts 53 (a * l) c (lit< tt) C (normal-of-fraction binary64 a c C (normal (2 ^ 52) l (2 ^ 1022) (lit≤ tt) least))) in
     let fine : g < overflow binary64 = lt-of-le-of-lt (under g l (2 ^ 1022) most (within-twice (lit≤ tt) w)) (lit< tt) in
     near-of-value (round binary64 false a c) g l a c (round-val binary64 a c fine) (pow-pos 1074) C w
   where
@@ -128,7 +138,8 @@ round-near {k} {p} {q} a c few C Q range w = elim (eq-zero-or-pos p) [ inl e ↦
         let h : a * 1 ≤ a * q = mul-le-mul-left a Q in
         let z : p * c ≡ 0 = ap (λ (n : ℕ). n * c) e ∙ zero-mul c in
         let none : a ≡ 0 = omega (arith, within-twice few w) in
-        rw none (near-of-value (round binary64 false 0 c) 0 c p q (round-exact binary64 false 0 c 0 0 C (lit< tt) (lit< tt) (sym (zero-mul c))) C Q (within-same (zero-mul q ∙ sym z)))
+        rw none (near-of-value (round binary64 false 0 c) 0 c p q (round-exact binary64 false 0 c 0 0 C (lit< tt) (lit< tt) (sym (zero-mul c))) C Q
+        (within-same (zero-mul q ∙ sym z)))
 
     at-pos : 0 < p → Near (1 + k) (round binary64 false a c) p q
     at-pos P =

@@ -3,7 +3,8 @@
 use mathlib.Core.Path.{_≡_, refl, sym, ap, _∙_}
 use mathlib.Core.List.{List, [], _∷_, foldl}
 use Prim.Native.Nat.{ℕ, suc, _+_, _-_, _*_, _^_, _≤_, _<_}
-use native.Mathlib.Nat.{le-refl, le-trans, le-of-eq, mul-le-mul, mul-le-mul-left, mul-le-mul-right, mul-one, pow-le-pow-left, pow-le-pow-right, add-assoc, add-zero, zero-add, add-le-add}
+use native.Mathlib.Nat.{le-refl, le-trans, le-of-eq, mul-le-mul, mul-le-mul-left, mul-le-mul-right, mul-one, pow-le-pow-left, pow-le-pow-right}
+use native.Mathlib.Nat.{add-assoc, add-zero, zero-add, add-le-add}
 use native.Mathlib.Omega.{arith}
 use lib.IntN.{pos}
 use lib.Dec.{lit≤, lit<}
@@ -59,13 +60,15 @@ start =
     let zero : Near 8 (bits 0) 0 (10 ^ 14) = near-exact (bits 0) 0 (10 ^ 14) (refl, refl) (lit< tt) in
     record { lost = zero; total = zero; order = record { left = tt; right = tt; below = le-refl 0 }; part = le-refl 0; most = le-refl 0 }
 
-add-term : {i s e : ℕ} {x z : Float} → i < 15 → s ≤ i * 10 ^ 26 → e ≤ 10 ^ 26 → Near (i + 8) x s (10 ^ 14) → Near 8 z e (10 ^ 14) → Near (1 + i + 8) (x ⊕ z) (s + e) (10 ^ 14)
+add-term : {i s e : ℕ} {x z : Float} → i < 15 → s ≤ i * 10 ^ 26 → e ≤ 10 ^ 26 → Near (i + 8) x s (10 ^ 14) → Near 8 z e (10 ^ 14)
+    → Near (1 + i + 8) (x ⊕ z) (s + e) (10 ^ 14)
 add-term {i} {s} {e} h m l a b =
     let small : s + e ≤ 10 ^ 28 = omega arith in
     rw (← (add-assoc 1 i 8)) at (add-near (omega arith) (ranged (lit< tt) (le-trans small (lit≤ tt)) (lit≤ tt)) a (near-more (omega arith) b))
 
 sums-step : {i l t : ℕ} {x y : Float} (o : Measured) → Sound o → i < 15 → Sums i x y l t
-    → Sums (1 + i) (addWeighted (λ (o : Measured). o .lost) x o) (addWeighted (λ (o : Measured). o .total) y o) (l + exactWeight (o .age) * o .lost) (t + exactWeight (o .age) * o .total)
+    → Sums (1 + i) (addWeighted (λ (o : Measured). o .lost) x o) (addWeighted (λ (o : Measured). o .total) y o) (l + exactWeight (o .age) * o .lost)
+    (t + exactWeight (o .age) * o .total)
 sums-step {i} {l} {t} {x} {y} o s h a =
     let few : o .lost ≤ 10 ^ 12 = omega arith in
     let whole : o .total ≤ 2 ^ 53 = omega arith in
@@ -76,17 +79,20 @@ sums-step {i} {l} {t} {x} {y} o s h a =
     let v = term-near (o .age) (o .total) (s .young) (s .bounded) in
     let lost = add-term h (le-trans (a .part) (a .most)) (le-trans p m) (a .lost) u in
     let total = add-term h (a .most) m (a .total) v in
-    let same : Under (weight (o .age)) (weight (o .age)) = record { left = w .plainly; right = w .plainly; below = le-refl (num (weight (o .age)) * den (weight (o .age))) } in
+    let same : Under (weight (o .age)) (weight (o .age)) =
+    record { left = w .plainly; right = w .plainly; below = le-refl (num (weight (o .age)) * den (weight (o .age))) } in
     record {
       lost = lost;
       total = total;
-      order = add-under (a .order) (mul-under same (whole-under (o .lost) (o .total) (s .part) whole) (u .plainly) (v .plainly)) (lost .plainly) (total .plainly);
+      order =
+          add-under (a .order) (mul-under same (whole-under (o .lost) (o .total) (s .part) whole) (u .plainly) (v .plainly)) (lost .plainly) (total .plainly);
       part = add-le-add (a .part) p;
       most = let k = a .most in omega arith;
     }
 
 sums-fold : (os : List Measured) {i l t : ℕ} {x y : Float} → AllSound os → i + length os ≤ 15 → Sums i x y l t
-    → Sums (i + length os) (foldl (addWeighted (λ (o : Measured). o .lost)) x os) (foldl (addWeighted (λ (o : Measured). o .total)) y os) (l + exactLost os) (t + exactTotal os)
+    → Sums (i + length os) (foldl (addWeighted (λ (o : Measured). o .lost)) x os) (foldl (addWeighted (λ (o : Measured). o .total)) y os)
+    (l + exactLost os) (t + exactTotal os)
 unfolding exactSum
 sums-fold [] s h a = simp add-zero a
 sums-fold (o ∷ os) {i} {l} {t} (s, ss) h a =

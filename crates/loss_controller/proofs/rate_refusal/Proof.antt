@@ -17,7 +17,9 @@ is-sign-negative-requires c κs = search needs
 
 returns-2 : tie.Need-returns-2
 unfolding rateRefusal
-returns-2 c = rw (← c .before .before .before .is-valid .ensures, not-false (c .before .before .before .is-valid .result) (c .before .before .if1 .left), ← c .before .is-sign-negative .ensures, c .if2 .taken)
+returns-2 c =
+    let b = c .before .before .before in
+    rw (← b .is-valid .ensures, not-false (b .is-valid .result) (c .before .before .if1 .left), ← c .before .is-sign-negative .ensures, c .if2 .taken)
 
 gt-requires : tie.Need-gt-requires
 gt-requires c κs = search needs
@@ -26,13 +28,15 @@ returns-3 : tie.Need-returns-3
 unfolding rateRefusal
 returns-3 c =
     let b = c .before .before .before .before in
-    rw (← b .before .is-valid .ensures, not-false (b .before .is-valid .result) (b .if1 .left), ← c .before .before .before .is-sign-negative .ensures, c .before .before .if2 .left, ← c .before .gt .ensures, c .if3 .taken)
+    rw (← b .before .is-valid .ensures, not-false (b .before .is-valid .result) (b .if1 .left))
+    (rw (← c .before .before .before .is-sign-negative .ensures, c .before .before .if2 .left, ← c .before .gt .ensures, c .if3 .taken))
 
 returns-4 : tie.Need-returns-4
 unfolding rateRefusal
 returns-4 c =
     let b = c .before .before .before .before in
-    rw (← b .before .is-valid .ensures, not-false (b .before .is-valid .result) (b .if1 .left), ← c .before .before .before .is-sign-negative .ensures, c .before .before .if2 .left, ← c .before .gt .ensures, c .if3 .left)
+    rw (← b .before .is-valid .ensures, not-false (b .before .is-valid .result) (b .if1 .left))
+    (rw (← c .before .before .before .is-sign-negative .ensures, c .before .before .if2 .left, ← c .before .gt .ensures, c .if3 .left))
 
 pub rate-refusal-spec : {M : Type 1} → statement M
 rate-refusal-spec =

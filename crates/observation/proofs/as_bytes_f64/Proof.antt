@@ -17,7 +17,8 @@ as-bytes-f64-requires c κs = search needs
 
 returns-2 : tie.Need-returns-2
 returns-2 c =
-    rw (c .as-bytes-f64 .ensures, c .before .before .before .from-usize .ensures, a-size _ (rw (c .before .before .before .from-usize .ensures) at (c .before .before .if1 .left)))
+    rw (c .as-bytes-f64 .ensures, c .before .before .before .from-usize .ensures)
+    (rw (a-size _ (rw (c .before .before .before .from-usize .ensures) at (c .before .before .if1 .left))))
 
 pub as-bytes-f64-spec : {M : Type 1} → statement M
 as-bytes-f64-spec =

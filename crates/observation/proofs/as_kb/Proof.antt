@@ -17,7 +17,8 @@ as-kb-requires c κs = search needs
 
 returns-2 : tie.Need-returns-2
 returns-2 c =
-    rw (c .as-kb .ensures, c .before .before .before .from-usize .ensures, a-size _ (rw (c .before .before .before .from-usize .ensures) at (c .before .before .if1 .left)))
+    rw (c .as-kb .ensures, c .before .before .before .from-usize .ensures)
+    (rw (a-size _ (rw (c .before .before .before .from-usize .ensures) at (c .before .before .if1 .left))))
 
 pub as-kb-spec : {M : Type 1} → statement M
 as-kb-spec = tie.close (tie.spec from-usize-requires returns as-kb-requires returns-2)

@@ -20,7 +20,9 @@ max-requires c κs = search needs
 
 returns-2 : tie.Need-returns-2
 unfolding highLossLimit
-returns-2 c = rw (← c .before .before .before .before .mul-f64 .ensures, ← c .before .before .before .sub .ensures, eq-eqb _ _ (c .before .before .if1 .left), ← c .max .ensures)
+returns-2 c =
+    let b = c .before .before .before in
+    rw (← b .before .mul-f64 .ensures, ← b .sub .ensures, eq-eqb _ _ (c .before .before .if1 .left), ← c .max .ensures)
 
 pub high-loss-limit-spec : {M : Type 1} → statement M
 high-loss-limit-spec =

@@ -19,7 +19,8 @@ as-kb-requires c κs = search needs
 returns : tie.Need-returns
 returns c =
     let s = c .before .before .before .before .before .before in
-    rw (c .as-kb .ensures, c .before .before .sub .ensures, c .before .before .before .before .from-usize2 .ensures, c .before .before .before .before .before .from-usize .ensures, difference _ _ (s .pre .0) (s .pre .1))
+    rw (c .as-kb .ensures, c .before .before .sub .ensures, c .before .before .before .before .from-usize2 .ensures)
+    (rw (c .before .before .before .before .before .from-usize .ensures, difference _ _ (s .pre .0) (s .pre .1)))
 
 pub received-as-kb-spec : {M : Type 1} → statement M
 received-as-kb-spec =

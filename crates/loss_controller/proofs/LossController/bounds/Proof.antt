@@ -18,7 +18,10 @@ get-instant-upper-bound-requires c κs = search needs
 
 returns : tie.Need-returns
 unfolding bounds
-returns c = rw (← c .before .before .before .is-in-alr .ensures, ← c .before .before .link-capacity-bound .ensures, ← c .before .is-bandwidth-limited-due-to-loss .ensures, ← c .get-instant-upper-bound .ensures)
+returns c =
+    let b = c .before .before .before in
+    rw (← b .is-in-alr .ensures, ← c .before .before .link-capacity-bound .ensures, ← c .before .is-bandwidth-limited-due-to-loss .ensures)
+    (rw (← c .get-instant-upper-bound .ensures))
 
 pub bounds-spec : {M : Type 1} → statement M
 bounds-spec =

@@ -36,7 +36,9 @@ unfolding published atMost
 returns-3 c =
     let b = c .before .before .before .before .before .before in
     let d = b .before .before .before .before in
-    rw (← d .before .is-valid .ensures, not-false (d .before .is-valid .result) (d .if1 .left), ne-eqb _ _ (b .before .if2 .left), ← b .get-instant-upper-bound .ensures, ← c .before .before .before .is-valid2 .ensures, c .before .before .if3 .taken, ← c .before .min .ensures, ← c .min2 .ensures)
+    rw (← d .before .is-valid .ensures, not-false (d .before .is-valid .result) (d .if1 .left), ne-eqb _ _ (b .before .if2 .left))
+    (rw (← b .get-instant-upper-bound .ensures, ← c .before .before .before .is-valid2 .ensures, c .before .before .if3 .taken)
+    (rw (← c .before .min .ensures, ← c .min2 .ensures)))
 
 min-requires-3 : tie.Need-min-requires-3
 min-requires-3 c κs = search needs
@@ -46,7 +48,8 @@ unfolding published atMost
 returns-4 c =
     let b = c .before .before .before .before .before in
     let d = b .before .before .before .before in
-    rw (← d .before .is-valid .ensures, not-false (d .before .is-valid .result) (d .if1 .left), ne-eqb _ _ (b .before .if2 .left), ← b .get-instant-upper-bound .ensures, ← c .before .before .is-valid2 .ensures, c .before .if3 .left, ← c .min3 .ensures)
+    rw (← d .before .is-valid .ensures, not-false (d .before .is-valid .result) (d .if1 .left), ne-eqb _ _ (b .before .if2 .left))
+    (rw (← b .get-instant-upper-bound .ensures, ← c .before .before .is-valid2 .ensures, c .before .if3 .left, ← c .min3 .ensures))
 
 pub published-spec : {M : Type 1} → statement M
 published-spec =

@@ -25,7 +25,8 @@ returns-2 : tie.Need-returns-2
 unfolding reported observed withDelayBasedEstimate
 returns-2 c =
     let b = c .before .before .before .before in
-    rw (← b .before .before .with-inputs .ensures, ne-eqb _ _ (b .if1 .left), ← c .before .before .maybe-add-observation .ensures, ne-eqb _ _ (c .before .if2 .taken), ← c .refused .ensures)
+    rw (← b .before .before .with-inputs .ensures, ne-eqb _ _ (b .if1 .left), ← c .before .before .maybe-add-observation .ensures)
+    (rw (ne-eqb _ _ (c .before .if2 .taken), ← c .refused .ensures))
 
 with-observations-requires : tie.Need-with-observations-requires
 with-observations-requires c κs = search needs
@@ -38,7 +39,9 @@ unfolding reported observed withDelayBasedEstimate
 returns-3 c =
     let b = c .before .before .before .before in
     let d = b .before .before .before .before .before in
-    rw (← d .with-inputs .ensures, ne-eqb _ _ (b .before .before .before .if1 .left), ← b .before .maybe-add-observation .ensures, eq-eqb _ _ (b .if2 .left), ← c .before .before .before .with-observations .ensures, not-true (b .before .maybe-add-observation .result .completed) (c .before .if3 .taken), ← c .answered2 .ensures)
+    rw (← d .with-inputs .ensures, ne-eqb _ _ (b .before .before .before .if1 .left), ← b .before .maybe-add-observation .ensures)
+    (rw (eq-eqb _ _ (b .if2 .left), ← c .before .before .before .with-observations .ensures)
+    (rw (not-true (b .before .maybe-add-observation .result .completed) (c .before .if3 .taken), ← c .answered2 .ensures)))
 
 has-valid-estimate-requires : tie.Need-has-valid-estimate-requires
 has-valid-estimate-requires c κs = search needs
@@ -51,7 +54,11 @@ unfolding reported observed withDelayBasedEstimate
 returns-4 c =
     let b = c .before .before .before .before .before in
     let d = b .before .before .before .before in
-    rw (← d .before .before .with-inputs .ensures, ne-eqb _ _ (d .if1 .left), ← b .before .before .maybe-add-observation .ensures, eq-eqb _ _ (b .before .if2 .left), ← b .with-observations .ensures, not-false (b .before .before .maybe-add-observation .result .completed) (c .before .before .before .if3 .left), ← c .before .before .has-valid-estimate .ensures, not-true (c .before .before .has-valid-estimate .result) (c .before .if4 .taken), ← c .answered3 .ensures)
+    rw (← d .before .before .with-inputs .ensures, ne-eqb _ _ (d .if1 .left), ← b .before .before .maybe-add-observation .ensures)
+    (rw (eq-eqb _ _ (b .before .if2 .left), ← b .with-observations .ensures)
+    (rw (not-false (b .before .before .maybe-add-observation .result .completed) (c .before .before .before .if3 .left))
+    (rw (← c .before .before .has-valid-estimate .ensures, not-true (c .before .before .has-valid-estimate .result) (c .before .if4 .taken))
+    (rw (← c .answered3 .ensures)))))
 
 updated-estimator-requires : tie.Need-updated-estimator-requires
 updated-estimator-requires c κs = search needs
@@ -65,7 +72,11 @@ returns-5 c =
     let b = c .before .before .before .before in
     let d = b .before .before .before .before in
     let e = d .before .before .before .before .before in
-    rw (← e .with-inputs .ensures, ne-eqb _ _ (d .before .before .before .if1 .left), ← d .before .maybe-add-observation .ensures, eq-eqb _ _ (d .if2 .left), ← b .before .before .before .with-observations .ensures, not-false (d .before .maybe-add-observation .result .completed) (b .before .if3 .left), ← b .has-valid-estimate .ensures, not-false (b .has-valid-estimate .result) (c .before .before .before .if4 .left), ← c .before .before .updated-estimator .ensures, ne-eqb _ _ (c .before .if5 .taken), ← c .refused2 .ensures)
+    rw (← e .with-inputs .ensures, ne-eqb _ _ (d .before .before .before .if1 .left), ← d .before .maybe-add-observation .ensures)
+    (rw (eq-eqb _ _ (d .if2 .left), ← b .before .before .before .with-observations .ensures)
+    (rw (not-false (d .before .maybe-add-observation .result .completed) (b .before .if3 .left), ← b .has-valid-estimate .ensures)
+    (rw (not-false (b .has-valid-estimate .result) (c .before .before .before .if4 .left), ← c .before .before .updated-estimator .ensures)
+    (rw (ne-eqb _ _ (c .before .if5 .taken), ← c .refused2 .ensures)))))
 
 with-estimator-requires : tie.Need-with-estimator-requires
 with-estimator-requires c κs = search needs
@@ -79,7 +90,12 @@ returns-6 c =
     let b = c .before .before .before .before in
     let d = b .before .before .before .before in
     let e = d .before .before .before .before in
-    rw (← e .before .before .with-inputs .ensures, ne-eqb _ _ (e .if1 .left), ← d .before .before .maybe-add-observation .ensures, eq-eqb _ _ (d .before .if2 .left), ← d .with-observations .ensures, not-false (d .before .before .maybe-add-observation .result .completed) (b .before .before .if3 .left), ← b .before .has-valid-estimate .ensures, not-false (b .before .has-valid-estimate .result) (b .if4 .left), ← c .before .before .before .updated-estimator .ensures, eq-eqb _ _ (c .before .before .if5 .left), ← c .before .with-estimator .ensures, ← c .answered4 .ensures)
+    rw (← e .before .before .with-inputs .ensures, ne-eqb _ _ (e .if1 .left), ← d .before .before .maybe-add-observation .ensures)
+    (rw (eq-eqb _ _ (d .before .if2 .left), ← d .with-observations .ensures)
+    (rw (not-false (d .before .before .maybe-add-observation .result .completed) (b .before .before .if3 .left))
+    (rw (← b .before .has-valid-estimate .ensures, not-false (b .before .has-valid-estimate .result) (b .if4 .left))
+    (rw (← c .before .before .before .updated-estimator .ensures, eq-eqb _ _ (c .before .before .if5 .left))
+    (rw (← c .before .with-estimator .ensures, ← c .answered4 .ensures))))))
 
 pub reported-spec : {M : Type 1} → statement M
 reported-spec =

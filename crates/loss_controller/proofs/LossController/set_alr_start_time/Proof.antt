@@ -31,7 +31,9 @@ returns-2 : tie.Need-returns-2
 unfolding setAlrStartTime
 returns-2 c =
     let b = c .before .before .before .before in
-    rw (← b .before .before .refusal .ensures, eq-eqb _ _ (b .before .if1 .left), ← b .is-in-alr .ensures, ← c .before .before .before .is-some .ensures, ← c .before .before .with-alr-start-time .ensures, c .before .if2 .taken, ← c .answered .ensures)
+    rw (← b .before .before .refusal .ensures, eq-eqb _ _ (b .before .if1 .left), ← b .is-in-alr .ensures)
+    (rw (← c .before .before .before .is-some .ensures, ← c .before .before .with-alr-start-time .ensures, c .before .if2 .taken)
+    (rw (← c .answered .ensures)))
 
 reset-observations-requires : tie.Need-reset-observations-requires
 reset-observations-requires c κs = search needs
@@ -43,7 +45,9 @@ returns-3 : tie.Need-returns-3
 unfolding setAlrStartTime
 returns-3 c =
     let b = c .before .before .before .before in
-    rw (← b .before .before .before .refusal .ensures, eq-eqb _ _ (b .before .before .if1 .left), ← b .before .is-in-alr .ensures, ← b .is-some .ensures, ← c .before .before .before .with-alr-start-time .ensures, c .before .before .if2 .left, ← c .before .reset-observations .ensures, ← c .answered2 .ensures)
+    rw (← b .before .before .before .refusal .ensures, eq-eqb _ _ (b .before .before .if1 .left), ← b .before .is-in-alr .ensures)
+    (rw (← b .is-some .ensures, ← c .before .before .before .with-alr-start-time .ensures, c .before .before .if2 .left)
+    (rw (← c .before .reset-observations .ensures, ← c .answered2 .ensures)))
 
 pub set-alr-start-time-spec : {M : Type 1} → statement M
 set-alr-start-time-spec =

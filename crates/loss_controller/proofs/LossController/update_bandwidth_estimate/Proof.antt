@@ -25,7 +25,8 @@ returns-2 : tie.Need-returns-2
 unfolding updateBandwidthEstimate
 returns-2 c =
     let b = c .before .before .before .before in
-    rw (← b .columns-refusal .ensures, eq-eqb _ _ (c .before .before .before .if1 .left), ← c .before .before .rate-refusal .ensures, ne-eqb _ _ (c .before .if2 .taken), ← c .refused2 .ensures)
+    rw (← b .columns-refusal .ensures, eq-eqb _ _ (c .before .before .before .if1 .left), ← c .before .before .rate-refusal .ensures)
+    (rw (ne-eqb _ _ (c .before .if2 .taken), ← c .refused2 .ensures))
 
 summary-requires : tie.Need-summary-requires
 summary-requires c κs = search needs
@@ -37,7 +38,9 @@ returns-3 : tie.Need-returns-3
 unfolding updateBandwidthEstimate
 returns-3 c =
     let b = c .before .before .before .before in
-    rw (← b .before .before .columns-refusal .ensures, eq-eqb _ _ (b .before .if1 .left), ← b .rate-refusal .ensures, eq-eqb _ _ (c .before .before .before .if2 .left), ← c .before .before .summary .ensures, ne-eqb _ _ (c .before .if3 .taken), ← c .refused3 .ensures)
+    rw (← b .before .before .columns-refusal .ensures, eq-eqb _ _ (b .before .if1 .left), ← b .rate-refusal .ensures)
+    (rw (eq-eqb _ _ (c .before .before .before .if2 .left), ← c .before .before .summary .ensures, ne-eqb _ _ (c .before .if3 .taken))
+    (rw (← c .refused3 .ensures)))
 
 reported-requires : tie.Need-reported-requires
 reported-requires c κs = search needs
@@ -46,7 +49,9 @@ returns-4 : tie.Need-returns-4
 unfolding updateBandwidthEstimate
 returns-4 c =
     let b = c .before .before .before .before in
-    rw (← b .before .before .columns-refusal .ensures, eq-eqb _ _ (b .before .if1 .left), ← b .rate-refusal .ensures, eq-eqb _ _ (c .before .before .before .if2 .left), ← c .before .before .summary .ensures, eq-eqb _ _ (c .before .if3 .left), ← c .reported .ensures)
+    rw (← b .before .before .columns-refusal .ensures, eq-eqb _ _ (b .before .if1 .left), ← b .rate-refusal .ensures)
+    (rw (eq-eqb _ _ (c .before .before .before .if2 .left), ← c .before .before .summary .ensures, eq-eqb _ _ (c .before .if3 .left))
+    (rw (← c .reported .ensures)))
 
 pub update-bandwidth-estimate-spec : {M : Type 1} → statement M
 update-bandwidth-estimate-spec =

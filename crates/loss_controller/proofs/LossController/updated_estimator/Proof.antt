@@ -17,7 +17,9 @@ average-reported-loss-ratio-requires c κs = search needs
 
 returns-2 : tie.Need-returns-2
 unfolding updatedEstimator
-returns-2 c = rw (← c .before .before .before .rows .ensures, eq-eqb _ _ (c .before .before .if1 .left), ← c .before .average-reported-loss-ratio .ensures, ne-eqb _ _ (c .if2 .taken))
+returns-2 c =
+    let b = c .before .before .before in
+    rw (← b .rows .ensures, eq-eqb _ _ (c .before .before .if1 .left), ← c .before .average-reported-loss-ratio .ensures, ne-eqb _ _ (c .if2 .taken))
 
 bounds-requires : tie.Need-bounds-requires
 bounds-requires c κs = search needs
@@ -32,7 +34,9 @@ returns-3 : tie.Need-returns-3
 unfolding updatedEstimator
 returns-3 c =
     let b = c .before .before .before .before .before in
-    rw (← b .before .before .before .rows .ensures, eq-eqb _ _ (b .before .before .if1 .left), ← b .before .average-reported-loss-ratio .ensures, eq-eqb _ _ (b .if2 .left), ← c .before .before .before .bounds .ensures, ← c .before .before .get-candidates .ensures, ← c .before .choose .ensures, ne-eqb _ _ (c .if3 .taken))
+    rw (← b .before .before .before .rows .ensures, eq-eqb _ _ (b .before .before .if1 .left))
+    (rw (← b .before .average-reported-loss-ratio .ensures, eq-eqb _ _ (b .if2 .left), ← c .before .before .before .bounds .ensures)
+    (rw (← c .before .before .get-candidates .ensures, ← c .before .choose .ensures, ne-eqb _ _ (c .if3 .taken))))
 
 report-requires : tie.Need-report-requires
 report-requires c κs = search needs
@@ -45,7 +49,10 @@ unfolding updatedEstimator
 returns-4 c =
     let b = c .before .before .before .before in
     let d = b .before .before .before .before in
-    rw (← d .before .before .rows .ensures, eq-eqb _ _ (d .before .if1 .left), ← d .average-reported-loss-ratio .ensures, eq-eqb _ _ (b .before .before .before .if2 .left), ← b .before .bounds .ensures, ← b .get-candidates .ensures, ← c .before .before .before .choose .ensures, eq-eqb _ _ (c .before .before .if3 .left), ← c .before .report .ensures, ← c .apply-best-candidate .ensures)
+    rw (← d .before .before .rows .ensures, eq-eqb _ _ (d .before .if1 .left), ← d .average-reported-loss-ratio .ensures)
+    (rw (eq-eqb _ _ (b .before .before .before .if2 .left), ← b .before .bounds .ensures, ← b .get-candidates .ensures)
+    (rw (← c .before .before .before .choose .ensures, eq-eqb _ _ (c .before .before .if3 .left), ← c .before .report .ensures)
+    (rw (← c .apply-best-candidate .ensures))))
 
 pub updated-estimator-spec : {M : Type 1} → statement M
 updated-estimator-spec =

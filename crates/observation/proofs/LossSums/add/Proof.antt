@@ -13,7 +13,9 @@ returns c = rw (ne-eqb _ _ (c .if1 .taken))
 
 returns-2 : tie.Need-returns-2
 unfolding summed
-returns-2 c = rw (eq-eqb _ _ (c .before .before .if1 .left), not-true (c .before .before .before .args .observation .«is_initialized») (c .if2 .taken))
+returns-2 c =
+    let b = c .before .before .before in
+    rw (eq-eqb _ _ (c .before .before .if1 .left), not-true (b .args .observation .«is_initialized») (c .if2 .taken))
 
 as-bytes-f64-requires : tie.Need-as-bytes-f64-requires
 as-bytes-f64-requires c κs = search needs
@@ -22,7 +24,8 @@ returns-3 : tie.Need-returns-3
 unfolding summed
 returns-3 c =
     let b = c .before .before in
-    rw (eq-eqb _ _ (b .before .before .if1 .left), not-false (b .before .before .before .args .observation .«is_initialized») (b .if2 .left), not-held _ (rw (c .before .as-bytes-f64 .ensures) at (c .if3 .taken)))
+    rw (eq-eqb _ _ (b .before .before .if1 .left), not-false (b .before .before .before .args .observation .«is_initialized») (b .if2 .left))
+    (rw (not-held _ (rw (c .before .as-bytes-f64 .ensures) at (c .if3 .taken))))
 
 as-bytes-f64-requires-2 : tie.Need-as-bytes-f64-requires-2
 as-bytes-f64-requires-2 c κs = search needs

@@ -16,7 +16,9 @@ as-kb-requires c κs = search needs
 
 returns-2 : tie.Need-returns-2
 unfolding row rowOf
-returns-2 c = rw (not-false (c .before .before .before .before .args .self .«is_initialized») (c .before .before .if1 .left), kb-not-held _ (rw (c .before .as-kb .ensures) at (c .if2 .taken)))
+returns-2 c =
+    let b = c .before .before .before .before in
+    rw (not-false (b .args .self .«is_initialized») (c .before .before .if1 .left), kb-not-held _ (rw (c .before .as-kb .ensures) at (c .if2 .taken)))
 
 as-kb-requires-2 : tie.Need-as-kb-requires-2
 as-kb-requires-2 c κs = search needs
@@ -24,7 +26,11 @@ as-kb-requires-2 c κs = search needs
 returns-3 : tie.Need-returns-3
 unfolding row rowOf
 returns-3 c =
-    rw (not-false (c .before .before .before .before .before .before .args .self .«is_initialized») (c .before .before .before .before .if1 .left), kb-held _ (rw (c .before .before .before .as-kb .ensures) at (c .before .before .if2 .left)), kb-not-held _ (rw (c .before .as-kb2 .ensures) at (c .if3 .taken)))
+    rw (
+      not-false (c .before .before .before .before .before .before .args .self .«is_initialized») (c .before .before .before .before .if1 .left),
+      kb-held _ (rw (c .before .before .before .as-kb .ensures) at (c .before .before .if2 .left)),
+      kb-not-held _ (rw (c .before .as-kb2 .ensures) at (c .if3 .taken)),
+    )
 
 age-requires : tie.Need-age-requires
 age-requires c κs = search needs
@@ -33,8 +39,10 @@ weight-requires : tie.Need-weight-requires
 weight-requires c κs = search needs
 
 received-as-kb-requires : tie.Need-received-as-kb-requires
-received-as-kb-requires c κs =
-    (held-small _ (kb-held _ (rw (c .before .before .before .before .before .before .as-kb .ensures) at (c .before .before .before .before .before .if2 .left))), held-small _ (kb-held _ (rw (c .before .before .before .before .as-kb2 .ensures) at (c .before .before .before .if3 .left))))
+received-as-kb-requires c κs = (
+  held-small _ (kb-held _ (rw (c .before .before .before .before .before .before .as-kb .ensures) at (c .before .before .before .before .before .if2 .left))),
+  held-small _ (kb-held _ (rw (c .before .before .before .before .as-kb2 .ensures) at (c .before .before .before .if3 .left))),
+)
 
 returns-4 : tie.Need-returns-4
 unfolding row rowOf

@@ -15,7 +15,9 @@ returns-2 : tie.Need-returns-2
 returns-2 c = rw (ratio-is (c .before .before .before .args .self) (c .before .before .loss-sums .ensures) (c .before .if1 .left), c .if2 .taken)
 
 returns-3 : tie.Need-returns-3
-returns-3 c = rw (ratio-is (c .before .before .before .before .args .self) (c .before .before .before .loss-sums .ensures) (c .before .before .if1 .left), c .before .if2 .left)
+returns-3 c =
+    let b = c .before .before .before in
+    rw (ratio-is (b .before .args .self) (b .loss-sums .ensures) (c .before .before .if1 .left), c .before .if2 .left)
 
 pub average-reported-loss-ratio-spec : {M : Type 1} → statement M
 average-reported-loss-ratio-spec =

@@ -26,14 +26,20 @@ refused-requires-2 c κs = search needs
 
 returns-2 : tie.Need-returns-2
 unfolding completed renewed
-returns-2 c = rw (← c .before .before .before .before .before .completed .ensures, eq-eqb _ _ (c .before .before .before .before .if1 .left), ← c .before .before .before .store .ensures, ← c .before .before .calculate-instant-upper-bound .ensures, ne-eqb _ _ (c .before .if2 .taken), ← c .refused2 .ensures)
+returns-2 c =
+    let b = c .before .before .before in
+    rw (← b .before .before .completed .ensures, eq-eqb _ _ (b .before .if1 .left), ← b .store .ensures)
+    (rw (← c .before .before .calculate-instant-upper-bound .ensures, ne-eqb _ _ (c .before .if2 .taken), ← c .refused2 .ensures))
 
 with-ceiling-requires : tie.Need-with-ceiling-requires
 with-ceiling-requires c κs = search needs
 
 returns-3 : tie.Need-returns-3
 unfolding completed renewed
-returns-3 c = rw (← c .before .before .before .before .before .completed .ensures, eq-eqb _ _ (c .before .before .before .before .if1 .left), ← c .before .before .before .store .ensures, ← c .before .before .calculate-instant-upper-bound .ensures, eq-eqb _ _ (c .before .if2 .left), ← c .with-ceiling .ensures)
+returns-3 c =
+    let b = c .before .before .before in
+    rw (← b .before .before .completed .ensures, eq-eqb _ _ (b .before .if1 .left), ← b .store .ensures)
+    (rw (← c .before .before .calculate-instant-upper-bound .ensures, eq-eqb _ _ (c .before .if2 .left), ← c .with-ceiling .ensures))
 
 pub complete-spec : {M : Type 1} → statement M
 complete-spec =

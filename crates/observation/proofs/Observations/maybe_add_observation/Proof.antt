@@ -23,7 +23,8 @@ returns-2 : tie.Need-returns-2
 unfolding added
 returns-2 c =
     let a = c .before .before .before .before in
-    rw (ne-eqb _ _ (a .before .if1 .left), ← a .from-instant .ensures, ← c .before .before .update .ensures, eq-eqb _ _ (c .before .if2 .taken), ← c .refused .ensures)
+    rw (ne-eqb _ _ (a .before .if1 .left), ← a .from-instant .ensures, ← c .before .before .update .ensures)
+    (rw (eq-eqb _ _ (c .before .if2 .taken), ← c .refused .ensures))
 
 reference-time-requires : tie.Need-reference-time-requires
 reference-time-requires c κs = search needs
@@ -42,8 +43,9 @@ unfolding added
 returns-3 c =
     let b = c .before .before .before .before in
     let a = b .before .before .before .before in
-    rw (ne-eqb _ _ (a .before .if1 .left), ← a .from-instant .ensures, ← b .before .before .update .ensures, ne-eqb _ _ (b .before .if2 .left), ← b .reference-time .ensures)
-    (rw (← c .before .before .before .sub .ensures, ← c .before .before .is-full .ensures, c .before .if3 .taken, ← c .refused2 .ensures))
+    rw (ne-eqb _ _ (a .before .if1 .left), ← a .from-instant .ensures, ← b .before .before .update .ensures, ne-eqb _ _ (b .before .if2 .left))
+    (rw (← b .reference-time .ensures, ← c .before .before .before .sub .ensures, ← c .before .before .is-full .ensures)
+    (rw (c .before .if3 .taken, ← c .refused2 .ensures)))
 
 refused-requires-3 : tie.Need-refused-requires-3
 refused-requires-3 c κs = search needs
@@ -54,8 +56,9 @@ returns-4 c =
     let b = c .before .before .before .before .before in
     let a = b .before .before .before .before in
     let d = c .before .before in
-    rw (ne-eqb _ _ (a .before .if1 .left), ← a .from-instant .ensures, ← b .before .before .update .ensures, ne-eqb _ _ (b .before .if2 .left), ← b .reference-time .ensures)
-    (rw (← d .before .before .sub .ensures, ← d .before .is-full .ensures, d .if3 .left, ne-eqb _ _ (c .before .if4 .taken), ← c .refused3 .ensures))
+    rw (ne-eqb _ _ (a .before .if1 .left), ← a .from-instant .ensures, ← b .before .before .update .ensures, ne-eqb _ _ (b .before .if2 .left))
+    (rw (← b .reference-time .ensures, ← d .before .before .sub .ensures, ← d .before .is-full .ensures)
+    (rw (d .if3 .left, ne-eqb _ _ (c .before .if4 .taken), ← c .refused3 .ensures)))
 
 completes-requires : tie.Need-completes-requires
 completes-requires c κs = search needs
@@ -71,9 +74,10 @@ returns-5 c =
     let d = c .before .before .before .before in
     let b = d .before .before .before in
     let a = b .before .before .before .before in
-    rw (ne-eqb _ _ (a .before .if1 .left), ← a .from-instant .ensures, ← b .before .before .update .ensures, ne-eqb _ _ (b .before .if2 .left), ← b .reference-time .ensures)
-    (rw (← d .before .before .sub .ensures, ← d .before .is-full .ensures, d .if3 .left, eq-eqb _ _ (c .before .before .before .if4 .left))
-    (rw (← c .before .before .completes .ensures, c .before .if5 .taken, ← c .complete .ensures)))
+    rw (ne-eqb _ _ (a .before .if1 .left), ← a .from-instant .ensures, ← b .before .before .update .ensures, ne-eqb _ _ (b .before .if2 .left))
+    (rw (← b .reference-time .ensures, ← d .before .before .sub .ensures, ← d .before .is-full .ensures)
+    (rw (d .if3 .left, eq-eqb _ _ (c .before .before .before .if4 .left))
+    (rw (← c .before .before .completes .ensures, c .before .if5 .taken, ← c .complete .ensures))))
 
 with-partial-requires : tie.Need-with-partial-requires
 with-partial-requires c κs = search needs
@@ -84,9 +88,10 @@ returns-6 c =
     let d = c .before .before .before .before in
     let b = d .before .before .before in
     let a = b .before .before .before .before in
-    rw (ne-eqb _ _ (a .before .if1 .left), ← a .from-instant .ensures, ← b .before .before .update .ensures, ne-eqb _ _ (b .before .if2 .left), ← b .reference-time .ensures)
-    (rw (← d .before .before .sub .ensures, ← d .before .is-full .ensures, d .if3 .left, eq-eqb _ _ (c .before .before .before .if4 .left))
-    (rw (← c .before .before .completes .ensures, c .before .if5 .left, ← c .with-partial .ensures)))
+    rw (ne-eqb _ _ (a .before .if1 .left), ← a .from-instant .ensures, ← b .before .before .update .ensures, ne-eqb _ _ (b .before .if2 .left))
+    (rw (← b .reference-time .ensures, ← d .before .before .sub .ensures, ← d .before .is-full .ensures)
+    (rw (d .if3 .left, eq-eqb _ _ (c .before .before .before .if4 .left))
+    (rw (← c .before .before .completes .ensures, c .before .if5 .left, ← c .with-partial .ensures))))
 
 pub maybe-add-observation-spec : {M : Type 1} → statement M
 maybe-add-observation-spec =

@@ -1,4 +1,5 @@
--- `observation::Observations::rows` meets its contract. The loop's invariant: the first i rows are made, and the slots that are left are readable where all are.
+-- `observation::Observations::rows` meets its contract. The loop's invariant: the first i rows are made, and the slots that are left are readable
+-- where all are.
 -- Assumes nothing.
 use Prim.Native.Nat.{_≤_, _<_, _-_}
 use mathlib.Core.List.{map}
@@ -73,7 +74,8 @@ returns-2 c =
     let o = b .before .before .args .self in
     let i = b .loop .slot in
     let l : length (o .observations) ≤ i = omega (arith, b .loop .inv .1) in
-    rw (sym (all-read (o .observations) i l (b .loop .inv .3)), fill-end (rowOf (o .«num_observations»)) (b .loop .rows) (o .observations) i (omega (arith, b .loop .inv .2)) l (b .loop .inv .4))
+    rw (sym (all-read (o .observations) i l (b .loop .inv .3)))
+    (rw (fill-end (rowOf (o .«num_observations»)) (b .loop .rows) (o .observations) i (omega (arith, b .loop .inv .2)) l (b .loop .inv .4)))
 
 pub rows-spec : {M : Type 1} → statement M
 rows-spec =

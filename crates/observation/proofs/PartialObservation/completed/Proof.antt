@@ -20,7 +20,9 @@ refused-requires-2 c κs = search needs
 
 returns-2 : tie.Need-returns-2
 unfolding observed
-returns-2 c = rw (le-leb _ _ (c .before .before .before .if1 .left), ← c .before .before .sending-rate .ensures, ne-eqb _ _ (c .before .if2 .taken), ← c .refused2 .ensures)
+returns-2 c =
+    let b = c .before .before .before in
+    rw (le-leb _ _ (b .if1 .left), ← c .before .before .sending-rate .ensures, ne-eqb _ _ (c .before .if2 .taken), ← c .refused2 .ensures)
 
 returns-3 : tie.Need-returns-3
 unfolding observed

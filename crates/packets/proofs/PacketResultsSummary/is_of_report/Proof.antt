@@ -33,7 +33,8 @@ returns-5 : tie.Need-returns-5
 unfolding isOfReport
 returns-5 c =
     let b = c .before .before .before in
-    rw (le-leb _ _ (b .before .if1 .left), le-leb _ _ (b .if2 .left), le-leb _ _ (c .before .before .if3 .left), le-leb _ _ (c .before .if4 .left), lt-leb _ _ (c .if5 .taken))
+    rw (le-leb _ _ (b .before .if1 .left), le-leb _ _ (b .if2 .left), le-leb _ _ (c .before .before .if3 .left))
+    (rw (le-leb _ _ (c .before .if4 .left), lt-leb _ _ (c .if5 .taken)))
 
 returns-6 : tie.Need-returns-6
 unfolding isOfReport

@@ -26,7 +26,8 @@ returns-2 : tie.Need-returns-2
 unfolding added
 returns-2 c =
     let b = c .before .before .before in
-    rw (← b .before .is-of-report .ensures, not-false (b .before .is-of-report .result) (b .if1 .left), le-ltb _ _ (c .before .if2 .taken), ← c .refused2 .ensures)
+    rw (← b .before .is-of-report .ensures, not-false (b .before .is-of-report .result) (b .if1 .left), le-ltb _ _ (c .before .if2 .taken))
+    (rw (← c .refused2 .ensures))
 
 add-packet-requires : tie.Need-add-packet-requires
 add-packet-requires c κs =
@@ -37,7 +38,8 @@ returns-3 : tie.Need-returns-3
 unfolding added
 returns-3 c =
     let b = c .before .before .before in
-    rw (← b .before .is-of-report .ensures, not-false (b .before .is-of-report .result) (b .if1 .left), lt-ltb _ _ (c .before .if2 .left), ← c .add-packet .ensures)
+    rw (← b .before .is-of-report .ensures, not-false (b .before .is-of-report .result) (b .if1 .left), lt-ltb _ _ (c .before .if2 .left))
+    (rw (← c .add-packet .ensures))
 
 pub add-spec : {M : Type 1} → statement M
 add-spec = tie.close (tie.spec is-of-report-requires refused-requires returns refused-requires-2 returns-2 add-packet-requires returns-3)
