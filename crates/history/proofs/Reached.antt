@@ -121,7 +121,8 @@ abbrev TimelyAnswer : AddedAnswer → Type 0
 TimelyAnswer a = Timely (a .observations .«last_send_time_most_recent_observation»)
 
 -- and what a report leaves is
-pub added-sound : (o : Observations) (s : PacketResultsSummary) → SoundObservations o → Parted s → s .«last_send_time» ≤ 4 * 10 ^ 18 → SoundObservations (Window.added o s .observations)
+pub added-sound : (o : Observations) (s : PacketResultsSummary) → SoundObservations o → Parted s → s .«last_send_time» ≤ 4 * 10 ^ 18
+    → SoundObservations (Window.added o s .observations)
 unfolding Window.withCeiling Window.stored Window.withPartial Window.reference
 added-sound o s k parted early = record {
   counted = added-counted o s (k .counted) (parted .packets);
@@ -179,11 +180,13 @@ updated-taken c h r f =
     let capacity = capacity-holds (Setters.isInAlr c) (c .inputs .«link_capacity_estimate») (i .capacity) in
     let fit = bound-fits b capacity (k .rates .limit .holds) (ceiling-not-negative o h (r .tied) .holds) (i .delay .holds) in
     let rows = rows-sent o (r .observations .sent) in
-    let choice = chosen (e .«current_estimate») b (Rows.rows o .rows) (ratio .value) (k .rates .current f) f (i .delay .above) (i .acknowledged .above) fit rows in
+    let choice = chosen (e .«current_estimate») b (Rows.rows o .rows) (ratio .value) (k .rates .current f) f (i .delay .above)
+    (i .acknowledged .above) fit rows in
     let taken = not-refused e _ (Report.report c (ratio .value)) (k .steady) (r .observations .timely) in
     let rates = applied-rates e _ (Report.report c (ratio .value)) (k .rates) f (choice .1) in
     checked-by Updated (Rows.rows o .refusal)
     (λ z. checked-by Updated (ratio .refusal)
-    (λ z. checked-by Updated _ (λ z. record { refusal = taken .refusal; sound = record { rates = rates; steady = taken .steady } }) (λ n. absurd (n (choice .0))))
+    (λ z. checked-by Updated _ (λ z. record { refusal = taken .refusal; sound = record { rates = rates; steady = taken .steady } })
+    (λ n. absurd (n (choice .0))))
     (λ n. absurd (n (ap (λ (a : FloatAnswer). a .refusal) (tied-reported o h (r .tied))))))
     (λ n. absurd (n (rows-taken o h (r .tied))))

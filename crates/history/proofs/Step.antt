@@ -28,7 +28,8 @@ use Rattle.history.specs.Run.{capacityOf, startOf, step, next, toldOf, l
 use Rattle.history.proofs.Sums.{summed, refusal-of-packets}
 use Rattle.history.proofs.Tied.{reset-tied, heardTotals, added-tied}
 use Rattle.history.proofs.Observed.{Parted, added-refusal, summary-parted}
-use Rattle.history.proofs.Reached.{TakenRate, SoundInputs, Reached, rate-taken, capacity-taken, cleared-sound, added-sound, initial-reached, updated-taken}
+use Rattle.history.proofs.Reached.{TakenRate, SoundInputs, Reached, rate-taken, capacity-taken, cleared-sound, added-sound, initial-reached}
+use Rattle.history.proofs.Reached.{updated-taken}
 use Rattle.history.proofs.Run.{always}
 
 -- an answer to a call before which the history was h: its refusal is this number, and what it leaves is reached, refused with h still, else with the
@@ -38,14 +39,16 @@ pub record Answered (a : ControllerAnswer) (refusal : ℕ) (h after : History) :
   pub leaves : Reached (a .controller) (cond (not (eqb (a .refusal) 0)) h after)
 
 -- a test that the controller and the history make alike
-agreed : (a b : Bool) → a ≡ b → {x y : LossController} {u v : History} → (a ≡ true → Reached x u) → (a ≡ false → Reached y v) → Reached (cond a x y) (cond b u v)
+agreed : (a b : Bool) → a ≡ b → {x y : LossController} {u v : History} → (a ≡ true → Reached x u) → (a ≡ false → Reached y v)
+    → Reached (cond a x y) (cond b u v)
 agreed true true e f g = f refl
 agreed true false e f g = absurd (true≢false e)
 agreed false true e f g = absurd (true≢false (sym e))
 agreed false false e f g = g refl
 
 -- the same test, of answers
-alike : (b : Bool) {x y : ControllerAnswer} {m n : ℕ} {h u v : History} → Answered x m h u → Answered y n h v → Answered (cond b x y) (cond b m n) h (cond b u v)
+alike : (b : Bool) {x y : ControllerAnswer} {m n : ℕ} {h u v : History} → Answered x m h u → Answered y n h v
+    → Answered (cond b x y) (cond b m n) h (cond b u v)
 alike true p q = p
 alike false p q = q
 
@@ -65,9 +68,11 @@ module _ (c : LossController) (h : History) (r : Reached c h) where
 
   -- ---- a setter
 
-  set-answered : (refusal : ℕ) (set : LossController) (after : History) → (refusal ≡ 0 → Reached set after) → Answered (checked c refusal (answered set)) refusal h after
+  set-answered : (refusal : ℕ) (set : LossController) (after : History) → (refusal ≡ 0 → Reached set after)
+      → Answered (checked c refusal (answered set)) refusal h after
   set-answered refusal set after taken =
-      checked-by (λ (a : ControllerAnswer). Answered a refusal h after) refusal (λ z. record { told = sym z; leaves = taken z }) (refused-answered refusal after)
+      checked-by (λ (a : ControllerAnswer). Answered a refusal h after) refusal (λ z. record { told = sym z; leaves = taken z })
+      (refused-answered refusal after)
 
   -- other inputs, but for ALR
   inputs-reached : (i : Inputs) → i .«alr_start_time» ≡ c .inputs .«alr_start_time» → SoundInputs i → Reached (withInputs c i) h
@@ -90,9 +95,17 @@ module _ (c : LossController) (h : History) (r : Reached c h) where
   unfolding switched withAlrStartTime resetObservations withInputs withObservations
   switched-reached start =
       let i = r .inputs in
-      let inputs : SoundInputs (withAlrStartTime c (startOf start) .inputs) = record { delay = i .delay; acknowledged = i .acknowledged; capacity = i .capacity } in
+      let inputs : SoundInputs (withAlrStartTime c (startOf start) .inputs) =
+      record { delay = i .delay; acknowledged = i .acknowledged; capacity = i .capacity } in
       agreed (Bool·beq (isInAlr c) (isSome (startOf start))) (Bool·beq (h .on) (isOn start)) (rw (r .on, starts start))
-      (λ e. record { tied = r .tied; on = same (isInAlr c) (isSome (startOf start)) e ∙ r .on; observations = r .observations; estimator = r .estimator; inputs = inputs })
+      (λ e.
+      record {
+        tied = r .tied;
+        on = same (isInAlr c) (isSome (startOf start)) e ∙ r .on;
+        observations = r .observations;
+        estimator = r .estimator;
+        inputs = inputs;
+      })
       (λ e. record {
         tied = rw (r .tied .count) (reset-tied (h .count) (isOn start));
         on = starts start;
@@ -129,7 +142,8 @@ module _ (c : LossController) (h : History) (r : Reached c h) where
       let o = c .observations in
       let a = Window.added o s in
       let refusal = added-refusal o h (r .tied) s (r .observations .counted) (parted .packets) (parted .bytes) in
-      let inputs : SoundInputs (Report.withDelayBasedEstimate c delay .inputs) = record { delay = d; acknowledged = r .inputs .acknowledged; capacity = r .inputs .capacity } in
+      let inputs : SoundInputs (Report.withDelayBasedEstimate c delay .inputs) =
+      record { delay = d; acknowledged = r .inputs .acknowledged; capacity = r .inputs .capacity } in
       alike (eqb (s .«num_packets») 0)
       (record { told = refl; leaves = record { tied = r .tied; on = r .on; observations = r .observations; estimator = r .estimator; inputs = inputs } })
       (checked-by (λ (b : ControllerAnswer). Answered b (totalsRefusal s) h (heardTotals h s)) (a .refusal)
@@ -144,7 +158,8 @@ module _ (c : LossController) (h : History) (r : Reached c h) where
       (λ n. record { told = refusal; leaves = refused-answered (a .refusal) (heardTotals h s) n .leaves }))
 
   updated-answered : (times sizes flags : List ℕ) (delay : ℕ)
-      → Answered (Report.updateBandwidthEstimate c times sizes flags (rateOf delay)) (reportRefusal h times sizes flags delay) h (heard h (report times sizes flags delay))
+      → Answered (Report.updateBandwidthEstimate c times sizes flags (rateOf delay)) (reportRefusal h times sizes flags delay) h
+      (heard h (report times sizes flags delay))
   unfolding Report.updateBandwidthEstimate reportRefusal heard
   updated-answered times sizes flags delay =
       let s = summaryOf times sizes flags in
@@ -175,11 +190,13 @@ module _ (c : LossController) (h : History) (r : Reached c h) where
       })
   answers (acknowledged n) =
       let i = r .inputs in
-      set-answered (rateRefusal (rateOf n)) _ h (λ z. inputs-reached _ refl (record { delay = i .delay; acknowledged = rate-taken n z; capacity = i .capacity }))
+      set-answered (rateRefusal (rateOf n)) _ h
+      (λ z. inputs-reached _ refl (record { delay = i .delay; acknowledged = rate-taken n z; capacity = i .capacity }))
   answers (alr start) = set-answered (startRefusal (startOf start)) _ _ (λ z. switched-reached start)
   answers (capacity n) =
       let i = r .inputs in
-      set-answered (capacityRefusal (capacityOf n)) _ h (λ z. inputs-reached _ refl (record { delay = i .delay; acknowledged = i .acknowledged; capacity = capacity-taken n z }))
+      set-answered (capacityRefusal (capacityOf n)) _ h
+      (λ z. inputs-reached _ refl (record { delay = i .delay; acknowledged = i .acknowledged; capacity = capacity-taken n z }))
   answers (report times sizes flags delay) = updated-answered times sizes flags delay
   answers read = record { told = refl; leaves = r }
 
