@@ -47,10 +47,10 @@ agreed false true e f g = absurd (true≢false (sym e))
 agreed false false e f g = g refl
 
 -- the same test, of answers
-alike : (b : Bool) {x y : ControllerAnswer} {m n : ℕ} {h u v : History} → Answered x m h u → Answered y n h v
+alike : (b : Bool) {x y : ControllerAnswer} {m n : ℕ} {h u v : History} → (b ≡ true → Answered x m h u) → (b ≡ false → Answered y n h v)
     → Answered (cond b x y) (cond b m n) h (cond b u v)
-alike true p q = p
-alike false p q = q
+alike true f g = f refl
+alike false f g = g refl
 
 module _ (c : LossController) (h : History) (r : Reached c h) where
   -- a refusal
@@ -145,8 +145,8 @@ module _ (c : LossController) (h : History) (r : Reached c h) where
       let inputs : SoundInputs (Report.withDelayBasedEstimate c delay .inputs) =
       record { delay = d; acknowledged = r .inputs .acknowledged; capacity = r .inputs .capacity } in
       alike (eqb (s .«num_packets») 0)
-      (record { told = refl; leaves = record { tied = r .tied; on = r .on; observations = r .observations; estimator = r .estimator; inputs = inputs } })
-      (checked-by (λ (b : ControllerAnswer). Answered b (totalsRefusal s) h (heardTotals h s)) (a .refusal)
+      (λ e. record { told = refl; leaves = record { tied = r .tied; on = r .on; observations = r .observations; estimator = r .estimator; inputs = inputs } })
+      (λ e. checked-by (λ (b : ControllerAnswer). Answered b (totalsRefusal s) h (heardTotals h s)) (a .refusal)
       (λ z. let b = observed-answered _ (heardTotals h s) (a .completed) (record {
         tied = added-tied o h (r .tied) s (parted .bytes) z;
         on = r .on ∙ sym (reported-on _ _ _ _);
