@@ -1,8 +1,9 @@
 #!/usr/bin/env python3
-"""refute.py [EDIT..]: for each must-fail edit of crate history, or for those named, that the edited claims are false. Under the edit, the tests of the claims
-(crates/history/proofs/Tested.antt, which proves that the claims make them true) are computed on the list that the edit
-names as 'list NAME' (crates/history/proofs/Sample.antt), and from a false test the negation of the edited claims is
-proved: of Unrefused1, or of Demand3 and Refusals2 together. Works on a copy under target/refute; the crates below history are taken as they were proved last.
+"""refute.py [EDIT..]: for each must-fail edit of crate history, or for those named, that the edited claims are false.
+Under the edit, the tests of the claims (crates/history/proofs/Tested.antt, which proves that the claims make them true)
+are computed on the list that the edit names as 'list NAME' (crates/history/proofs/Sample.antt), and from a false test the
+negation of the edited claims is proved: of Unrefused1, or of Demand3 and Refusals2 together. Works on a copy under
+target/refute; the crates below history are taken as they were proved last.
 Exit status 1 if an edit is not refuted; one that names no list is not, unless it stands in NOT_COMPUTED."""
 import os
 import re

@@ -1,7 +1,7 @@
 -- Demand 3: after every list of calls. Assumes nothing.
 use Prim.Native.Nat.{ℕ}
-use mathlib.Core.Path.{_≡_, refl, subst}
-use mathlib.Core.Bool.{Bool, true, false, cond}
+use mathlib.Core.Path.{_≡_, subst}
+use mathlib.Core.Bool.{cond}
 use native.Mathlib.Omega.{arith}
 use borrow.Author.Tests.{ne-eqb}
 use lib.Dec.{T, eqb}
@@ -12,7 +12,8 @@ use Rattle.rounding.specs.Plain.{plain}
 use Rattle.rounding.proofs.Upward.{upward-plain, minimum-plain}
 use Rattle.bandwidth.specs.Rate.{smaller}
 use Rattle.bandwidth.specs.declared.Bitrate.{Bitrate}
-use Rattle.bandwidth.specs.declared.OptionBitrate.the-variants.{Some, None}
+use Rattle.bandwidth.specs.declared.OptionBitrate.{OptionBitrate}
+use Rattle.bandwidth.specs.declared.OptionBitrate.the-variants.{Some}
 use Rattle.candidates.specs.Bound.{atMost}
 use Rattle.observation.specs.Ratio.{cached}
 use Rattle.loss_controller.specs.Result.{published, lossBasedResult, averageReportedLossRatio}
@@ -42,14 +43,11 @@ module _ (c : LossController) (h : History) (r : Reached c h) where
   published-by : (P : Float → Type 0) → (T (finite (own .bps)) → P (cond (eqb (c .observations .«num_observations») 0) own (smaller delayed ceiling) .bps))
       → (r : Bitrate) → lossBasedResult c .«bandwidth_estimate» ≡ Some r → P (r .bps)
   unfolding lossBasedResult published
-  published-by P holds r = go (finite (own .bps)) refl
-    where
-      chosen : Bitrate
-      chosen = cond (eqb (c .observations .«num_observations») 0) own (smaller delayed ceiling)
-
-      go : (b : Bool) → finite (own .bps) ≡ b → cond b (Some chosen) None ≡ Some r → P (r .bps)
-      go true f e = let same : chosen ≡ r = cc in subst (λ (x : Bitrate). P (x .bps)) same (holds (rw f tt))
-      go false f e = let no : _≡_ {A = ℕ} 0 1 = cc in absurd (omega arith)
+  published-by P holds r =
+      let chosen = cond (eqb (c .observations .«num_observations») 0) own (smaller delayed ceiling) in
+      tested (λ (o : OptionBitrate). o ≡ Some r → P (r .bps)) (finite (own .bps))
+      (λ f e. let same : chosen ≡ r = cc in subst (λ (x : Bitrate). P (x .bps)) same (holds (rw f tt)))
+      (λ f e. let no : _≡_ {A = ℕ} 0 1 = cc in absurd (omega arith))
 
   own-plain : T (finite (own .bps)) → T (plain (own .bps))
   own-plain f = upward-plain (own .bps) (r .estimator .rates .current f .above) f

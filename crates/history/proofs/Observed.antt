@@ -46,7 +46,8 @@ summary-parted =
 
 -- ---- a new observation
 
-observed-taken : (q : PartialObservation) (id : ℕ) (span : TimeDelta) → q .«num_lost_packets» ≤ q .«num_packets» → q .size ≤ 10 ^ 12 → Window.observed q id span .refusal ≡ 0
+observed-taken : (q : PartialObservation) (id : ℕ) (span : TimeDelta) → q .«num_lost_packets» ≤ q .«num_packets» → q .size ≤ 10 ^ 12
+    → Window.observed q id span .refusal ≡ 0
 unfolding Window.observed Delta.rate inFloat
 observed-taken q id span l room = rw (le-leb (q .«num_lost_packets») (q .«num_packets») l, le-leb (q .size) (2 ^ 53) (omega (arith, room))) refl
 
@@ -90,7 +91,11 @@ module _ (q : PartialObservation) (s : PacketResultsSummary) where
   unfolding Partial.updated
   updated-taken e packets bytes =
       let n = not-beyond (q .«num_packets» + s .«num_packets») (q .size + s .«total_size») e in
-      rw (e, le-ltb (2 ^ 64 - 1) (q .«num_lost_packets» + s .«num_lost_packets») (omega (arith, n .0, packets)), le-ltb (2 ^ 64 - 1) (q .«lost_size» + s .«lost_size») (omega (arith, n .1, bytes)))
+      rw (
+        e,
+        le-ltb (2 ^ 64 - 1) (q .«num_lost_packets» + s .«num_lost_packets») (omega (arith, n .0, packets)),
+        le-ltb (2 ^ 64 - 1) (q .«lost_size» + s .«lost_size») (omega (arith, n .1, bytes)),
+      )
       refl
 
 -- ---- a report
@@ -133,7 +138,8 @@ unfolding Window.cleared
 cleared-counted count = omega arith
 
 -- a report leaves no more running packets lost than there are
-pub added-counted : (o : Observations) (s : PacketResultsSummary) → Counted o → s .«num_lost_packets» ≤ s .«num_packets» → Counted (Window.added o s .observations)
+pub added-counted : (o : Observations) (s : PacketResultsSummary) → Counted o → s .«num_lost_packets» ≤ s .«num_packets»
+    → Counted (Window.added o s .observations)
 unfolding Window.withCeiling Window.stored Window.withPartial
 added-counted o s counted packets =
     added-by o s (λ (a : AddedAnswer). Counted (a .observations)) (λ n. counted) (λ r n. counted) (λ u c n. omega arith)

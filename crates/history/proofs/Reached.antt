@@ -121,7 +121,8 @@ abbrev TimelyAnswer : AddedAnswer → Type 0
 TimelyAnswer a = Timely (a .observations .«last_send_time_most_recent_observation»)
 
 -- and what a report leaves is
-pub added-sound : (o : Observations) (s : PacketResultsSummary) → SoundObservations o → Parted s → s .«last_send_time» ≤ 4 * 10 ^ 18 → SoundObservations (Window.added o s .observations)
+pub added-sound : (o : Observations) (s : PacketResultsSummary) → SoundObservations o → Parted s → s .«last_send_time» ≤ 4 * 10 ^ 18
+    → SoundObservations (Window.added o s .observations)
 unfolding Window.withCeiling Window.stored Window.withPartial Window.reference
 added-sound o s k parted early = record {
   counted = added-counted o s (k .counted) (parted .packets);

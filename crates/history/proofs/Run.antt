@@ -7,7 +7,8 @@ use Rattle.history.specs.History.{History, fresh, fed, after}
 use Rattle.history.specs.Run.{next, toldOf, leftOf, allTold, left, told}
 
 -- what the fresh controller and the fresh history have, and every call keeps, holds after every list
-module _ (P : LossController → History → Type 0) (kept : (c : LossController) (h : History) (call : Call) → P c h → P (next c call) (fed h (toldOf c call))) where
+module _ (P : LossController → History → Type 0) (kept : (c : LossController) (h : History) (call : Call) → P c h
+    → P (next c call) (fed h (toldOf c call))) where
   along : (calls : List Call) (c : LossController) (h : History) → P c h → P (leftOf c calls) (foldl fed h (allTold c calls))
   unfolding allTold
   along [] c h p = p

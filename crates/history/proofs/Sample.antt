@@ -6,7 +6,7 @@ use mathlib.Core.Bool.{true, false}
 use mathlib.Core.List.{List, [], _∷_, _++_}
 use mathlib.Core.Option.{none, some}
 use Rattle.history.specs.Calls.{Call, estimate, alr, report, read}
-use Rattle.history.proofs.Tested.{Outcome, outcome, untraced}
+use Rattle.history.proofs.Tested.{outcome, untraced}
 
 -- ---- the lists, of packets of 1,000 bytes. The estimate comes last, so that the steps after an observation are not computed
 

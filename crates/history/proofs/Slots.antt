@@ -39,7 +39,8 @@ module _ {A : Type 0} where
   unfolding turned
   turned-set l x v r h =
       rw (take-append-le r l (x ∷ []) h, drop-append-le r l (x ∷ []) h, reverse-append (drop r l) (x ∷ []), reverse-cons v (take r l))
-      (set-at (reverse (take r l)) x (reverse (drop r l)) v r (length-reverse (take r l) ∙ length-take-le r l h) ∙ sym (append-snoc (reverse (take r l)) v (reverse (drop r l))))
+      (set-at (reverse (take r l)) x (reverse (drop r l)) v r (length-reverse (take r l) ∙ length-take-le r l h)
+      ∙ sym (append-snoc (reverse (take r l)) v (reverse (drop r l))))
 
   turned-all : (l : List A) → turned (length l) l ≡ turned 0 l
   unfolding turned
@@ -60,7 +61,11 @@ module _ {A : Type 0} where
   turned-same : (a : A) (r k : ℕ) → turned r (replicate (r + k) a) ≡ replicate (r + k) a
   unfolding turned
   turned-same a r k =
-      rw (← (replicate-append-replicate r k a), take-at (replicate r a) (replicate k a) r (length-replicate r a), drop-at (replicate r a) (replicate k a) r (length-replicate r a))
+      rw (
+        ← (replicate-append-replicate r k a),
+        take-at (replicate r a) (replicate k a) r (length-replicate r a),
+        drop-at (replicate r a) (replicate k a) r (length-replicate r a),
+      )
       (rw (backwards-same a r 0, backwards-same a k 0, add-zero r, add-zero k))
 
 -- ---- the slots

@@ -28,7 +28,8 @@ use Rattle.history.specs.Run.{capacityOf, startOf, step, next, toldOf, l
 use Rattle.history.proofs.Sums.{summed, refusal-of-packets}
 use Rattle.history.proofs.Tied.{reset-tied, heardTotals, added-tied}
 use Rattle.history.proofs.Observed.{Parted, added-refusal, summary-parted}
-use Rattle.history.proofs.Reached.{TakenRate, SoundInputs, Reached, rate-taken, capacity-taken, cleared-sound, added-sound, initial-reached, updated-taken}
+use Rattle.history.proofs.Reached.{TakenRate, SoundInputs, Reached, rate-taken, capacity-taken, cleared-sound, added-sound, initial-reached}
+use Rattle.history.proofs.Reached.{updated-taken}
 use Rattle.history.proofs.Run.{always}
 
 -- an answer to a call before which the history was h: its refusal is this number, and what it leaves is reached, refused with h still, else with the
@@ -58,9 +59,11 @@ module _ (c : LossController) (h : History) (r : Reached c h) where
 
   -- ---- a setter
 
-  set-answered : (refusal : ℕ) (set : LossController) (after : History) → (refusal ≡ 0 → Reached set after) → Answered (checked c refusal (answered set)) refusal h after
+  set-answered : (refusal : ℕ) (set : LossController) (after : History) → (refusal ≡ 0 → Reached set after)
+      → Answered (checked c refusal (answered set)) refusal h after
   set-answered refusal set after taken =
-      checked-by (λ (a : ControllerAnswer). Answered a refusal h after) refusal (λ z. record { told = sym z; leaves = taken z }) (refused-answered refusal after)
+      checked-by (λ (a : ControllerAnswer). Answered a refusal h after) refusal (λ z. record { told = sym z; leaves = taken z })
+      (refused-answered refusal after)
 
   -- other inputs, but for ALR
   inputs-reached : (i : Inputs) → i .«alr_start_time» ≡ c .inputs .«alr_start_time» → SoundInputs i → Reached (withInputs c i) h
@@ -138,7 +141,8 @@ module _ (c : LossController) (h : History) (r : Reached c h) where
       (λ n. record { told = refusal; leaves = refused-answered (a .refusal) (heardTotals h s) n .leaves }))
 
   updated-answered : (times sizes flags : List ℕ) (delay : ℕ)
-      → Answered (Report.updateBandwidthEstimate c times sizes flags (rateOf delay)) (reportRefusal h times sizes flags delay) h (heard h (report times sizes flags delay))
+      → Answered (Report.updateBandwidthEstimate c times sizes flags (rateOf delay)) (reportRefusal h times sizes flags delay) h
+      (heard h (report times sizes flags delay))
   unfolding Report.updateBandwidthEstimate reportRefusal heard
   updated-answered times sizes flags delay =
       let s = summaryOf times sizes flags in
@@ -169,11 +173,13 @@ module _ (c : LossController) (h : History) (r : Reached c h) where
       })
   answers (acknowledged n) =
       let i = r .inputs in
-      set-answered (rateRefusal (rateOf n)) _ h (λ z. inputs-reached _ refl (record { delay = i .delay; acknowledged = rate-taken n z; capacity = i .capacity }))
+      set-answered (rateRefusal (rateOf n)) _ h
+      (λ z. inputs-reached _ refl (record { delay = i .delay; acknowledged = rate-taken n z; capacity = i .capacity }))
   answers (alr start) = set-answered (startRefusal (startOf start)) _ _ (λ z. switched-reached start)
   answers (capacity n) =
       let i = r .inputs in
-      set-answered (capacityRefusal (capacityOf n)) _ h (λ z. inputs-reached _ refl (record { delay = i .delay; acknowledged = i .acknowledged; capacity = capacity-taken n z }))
+      set-answered (capacityRefusal (capacityOf n)) _ h
+      (λ z. inputs-reached _ refl (record { delay = i .delay; acknowledged = i .acknowledged; capacity = capacity-taken n z }))
   answers (report times sizes flags delay) = updated-answered times sizes flags delay
   answers read = record { told = refl; leaves = r }
 

@@ -3,9 +3,9 @@
 use Prim.Native.Nat.{ℕ, _+_, _*_}
 use mathlib.Core.Path.{_≡_, refl, ap, _∙_, subst}
 use mathlib.Core.Bool.{Bool, true, false, not, _&&_, _||_}
-use mathlib.Core.List.{List, [], _∷_, _++_, foldl-append, append-nil}
+use mathlib.Core.List.{List, [], _∷_, _++_, foldl-append}
 use borrow.Author.Tests.{eq-eqb, le-leb, ltb-true, leb-true, eqb-false}
-use lib.Dec.{T, eqb, leb, ltb}
+use lib.Dec.{eqb, leb, ltb}
 use lib.Ieee.{Float, add, binary64, div, eq, inFloat, isNan, lt, mul, ofBits, ofInt, sub, toBits}
 use lib.Ieee.Bits.{is-true}
 use lib.Ieee.Positive.{num, den}
@@ -63,7 +63,9 @@ near ratio l t =
 
 near-true : (ratio : FloatAnswer) (l t : ℕ) → NearRatio ratio l t → near ratio l t ≡ true
 unfolding near
-near-true ratio l t n = holds (eq-eqb _ 0 (n .taken)) (holds (is-true (plain (ratio .value)) (n .close .plainly)) (holds (le-leb _ _ (n .close .above)) (le-leb _ _ (n .close .below))))
+near-true ratio l t n =
+    holds (eq-eqb _ 0 (n .taken))
+    (holds (is-true (plain (ratio .value)) (n .close .plainly)) (holds (le-leb _ _ (n .close .above)) (le-leb _ _ (n .close .below))))
 
 under : ℕ → ℕ → Float → Bool
 under l t x = plain x && leb (num x * (20 * l) * ceilingPart) (2000000 * t * den x * (ceilingPart + 1) + num x * t * ceilingPart)
@@ -205,7 +207,8 @@ unfolding meets near under each hasBytes loses judged refusalOf reportRefusal pa
     Window.cleared Window.reference Window.completes Window.full Window.observed Window.stored Window.withCeiling Window.withPartial Window.renewed
     Window.completed Window.added atMost minimum signBit Rate.over Rate.smaller Delta.difference Delta.inSeconds Delta.order Delta.rate Time.since
     ordered seconds weight lossRatio add div eq inFloat isNan lt mul ofBits ofInt sub toBits
-outcome calls = let h = after (told calls) in record { met = meets (left calls) h && judged initial fresh calls; count = h .count; lossy = hasBytes h && loses h }
+outcome calls = let h = after (told calls) in
+    record { met = meets (left calls) h && judged initial fresh calls; count = h .count; lossy = hasBytes h && loses h }
 
 pub outcome-met : Demand3 → Refusals2 → (calls : List Call) → outcome calls .met ≡ true
 unfolding outcome

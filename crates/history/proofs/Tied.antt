@@ -83,7 +83,8 @@ updated-sums q s h =
     (ltb (2 ^ 64 - 1) (q .«num_lost_packets» + s .«num_lost_packets») || ltb (2 ^ 64 - 1) (q .«lost_size» + s .«lost_size»)) refl h
   where
     answer : (packets bytes lost : Bool) → PartialAnswer
-    answer packets bytes lost = cond (packets || bytes) (Partial.refused q 10) (cond lost (Partial.refused q 7) (record { partial = Partial.plus q s; refusal = 0 }))
+    answer packets bytes lost =
+        cond (packets || bytes) (Partial.refused q 10) (cond lost (Partial.refused q 7) (record { partial = Partial.plus q s; refusal = 0 }))
 
     go : (packets bytes lost : Bool) → ltb (10 ^ 12) (q .size + s .«total_size») ≡ bytes → answer packets bytes lost .refusal ≡ 0
         → (answer packets bytes lost .partial ≡ Partial.plus q s) × (q .size + s .«total_size» ≤ 10 ^ 12)
@@ -127,7 +128,8 @@ module _ (o : Observations) (h : History) (t : Tied o h) where
     kept = running-kept h p packets time (t .kept) part;
   }
 
-  pub completed-tied : (new : Observation) (p : Pair) (sent : ℕ) → new .id ≡ o .«num_observations» → held new ≡ some (o .«num_observations», p) → p .bytes ≤ 10 ^ 12 → Part p
+  pub completed-tied : (new : Observation) (p : Pair) (sent : ℕ) → new .id ≡ o .«num_observations» → held new ≡ some (o .«num_observations», p)
+      → p .bytes ≤ 10 ^ 12 → Part p
       → Tied (Window.withCeiling (Window.stored o new (Exact sent)) (Ratio.instantUpperBound (Window.stored o new (Exact sent)) .rate)) (completed h p sent)
   unfolding Window.withCeiling Window.stored completed Ratio.instantUpperBound Ratio.averageReportedLossRatio Ratio.cached
   completed-tied new p sent id holds room part = record {
@@ -149,7 +151,9 @@ module _ (o : Observations) (h : History) (t : Tied o h) where
       go none = refl
       go (some time) = refl
 
-  pub completes-is : (sent : ℕ) → Window.completes (Time.since (Exact sent) (Window.reference (o .«last_send_time_most_recent_observation») (Exact sent))) ≡ ltb (heldOr (h .time) sent + 250000000) sent
+  pub completes-is : (sent : ℕ)
+      → Window.completes (Time.since (Exact sent) (Window.reference (o .«last_send_time_most_recent_observation») (Exact sent)))
+      ≡ ltb (heldOr (h .time) sent + 250000000) sent
   completes-is sent = rw (from-is sent) (completes-after sent (heldOr (h .time) sent))
 
   -- of whose bytes no more are lost than sent
@@ -157,7 +161,8 @@ module _ (o : Observations) (h : History) (t : Tied o h) where
     abbrev counted : ℕ
     counted = h .packets + s .«num_packets»
 
-    sums-are : sums o s .refusal ≡ 0 → (pairOf (sums o s .partial) ≡ pairWith h s) × (pairWith h s .bytes ≤ 10 ^ 12) × (sums o s .partial .«num_packets» ≡ counted)
+    sums-are : sums o s .refusal ≡ 0 → (pairOf (sums o s .partial) ≡ pairWith h s) × (pairWith h s .bytes ≤ 10 ^ 12)
+        × (sums o s .partial .«num_packets» ≡ counted)
     sums-are e =
         let u = updated-sums (o .«partial_observation») s e in
         (ap pairOf (u .0) ∙ rw (t .bytes, t .lost), omega (arith, u .1, t .bytes), ap (λ (q : PartialObservation). q .«num_packets») (u .0) ∙ rw (t .packets))

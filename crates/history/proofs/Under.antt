@@ -1,7 +1,6 @@
 -- The smaller of a rate and a ceiling: finite with its sign clear, and under the ceiling where it is set. Assumes nothing.
 use Prim.Native.Nat.{ℕ, _*_, _≤_}
-use mathlib.Core.Path.{_≡_, refl}
-use mathlib.Core.Bool.{Bool, true, false, cond}
+use mathlib.Core.Bool.{true, false}
 use lib.Dec.{T}
 use lib.Ieee.{Float, nan, inf, fin, isNan, lt}
 use Rattle.float.specs.Rust.{minimum}
@@ -14,8 +13,6 @@ use Rattle.history.specs.Demand.{UnderLossCeiling}
 -- where r is 1/20 or more, the smaller of a plain float and a ceiling that is set is under it
 pub minimum-under : {k : Float} {l t : ℕ} → Capped k l t → t ≤ 20 * l → (y : Float) → T (plain y) → UnderLossCeiling (minimum y k) l t
 unfolding minimum isNan
-minimum-under {k} {l} {t} c more (fin s m e) p = go (lt k (fin s m e)) refl
-  where
-    go : (b : Bool) → lt k (fin s m e) ≡ b → UnderLossCeiling (cond b k (fin s m e)) l t
-    go true h = record { plainly = c .plainly; under = c .above }
-    go false h = record { plainly = p; under = under-ceiling l t more (under-of-not-lt (c .plainly) p h) (c .above) }
+minimum-under {k} {l} {t} c more (fin s m e) p =
+    tested (λ (z : Float). UnderLossCeiling z l t) (lt k (fin s m e)) (λ h. record { plainly = c .plainly; under = c .above })
+    (λ h. record { plainly = p; under = under-ceiling l t more (under-of-not-lt (c .plainly) p h) (c .above) })

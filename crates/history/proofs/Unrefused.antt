@@ -12,7 +12,8 @@ use Rattle.packets.specs.Summary.{columnsRefusal, summaryOf}
 use Rattle.packets.specs.declared.PacketResultsSummary.{PacketResultsSummary}
 use Rattle.observation.specs.Window as Window
 use Rattle.loss_controller.specs.Controller.{answered, checked}
-use Rattle.loss_controller.specs.Setters.{rateOf, rateRefusal, capacityRefusal, startRefusal, setBandwidthEstimate, setAcknowledgedBitrate, setLinkCapacityEstimate, setAlrStartTime}
+use Rattle.loss_controller.specs.Setters.{rateOf, rateRefusal, capacityRefusal, startRefusal, setBandwidthEstimate, setAcknowledgedBitrate}
+use Rattle.loss_controller.specs.Setters.{setLinkCapacityEstimate, setAlrStartTime}
 use Rattle.loss_controller.specs.Report as Report
 use Rattle.loss_controller.specs.declared.LossController.{LossController}
 use Rattle.loss_controller.specs.declared.ControllerAnswer.{ControllerAnswer}

@@ -40,7 +40,8 @@ unfolding aged allBytes exactSum
 aged-some newer [] h = h
 aged-some newer (p ∷ ps) h = elim (eq-zero-or-pos (p .bytes)) [
   | inl none ↦ let rest = aged-some (newer + 1) ps (omega arith) in omega arith
-  | inr some ↦ let first : 0 < exactWeight newer * p .bytes = mul-pos (mul-pos (one-le-pow newer 9 (lit< tt)) (one-le-pow (14 - newer) 10 (lit< tt))) some in omega arith
+  | inr some ↦ let first : 0 < exactWeight newer * p .bytes =
+      mul-pos (mul-pos (one-le-pow newer 9 (lit< tt)) (one-le-pow (14 - newer) 10 (lit< tt))) some in omega arith
 ]
 
 some-pair : (ps : List Pair) → 0 < allBytes ps → 0 < length ps
@@ -83,7 +84,9 @@ module _ (o : Observations) (h : History) (t : Tied o h) where
   -- so the ceiling is not refused
   pub tied-ceiling-taken : Ratio.instantUpperBound o .refusal ≡ 0
   unfolding Ratio.instantUpperBound Ratio.instantLimit
-  tied-ceiling-taken = rw (tied-reported, tied-not-above-one) (either (λ (a : RateAnswer). a .refusal ≡ 0) (lt Config.«instant_upper_bound_loss_offset» (lossRatio read)) _ _ refl refl)
+  tied-ceiling-taken =
+      let above = lt Config.«instant_upper_bound_loss_offset» (lossRatio read) in
+      rw (tied-reported, tied-not-above-one) (either (λ (a : RateAnswer). a .refusal ≡ 0) above _ _ refl refl)
 
   module _ (some : 0 < allBytes (h .pairs)) where
     -- an observation is complete

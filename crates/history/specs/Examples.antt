@@ -22,7 +22,14 @@ spans :
     after (sent 5 90 10 ∷ sent 250000005 1 0 ∷ []) ≡
     record { pairs = []; running = record { bytes = 101; lost = 10 }; packets = 4; time = some 5; on = false; count = 0 }
     × after (sent 5 90 10 ∷ sent 250000006 1 0 ∷ []) ≡
-    record { pairs = record { bytes = 101; lost = 10 } ∷ []; running = record { bytes = 0; lost = 0 }; packets = 0; time = some 250000006; on = false; count = 1 }
+    record {
+      pairs = record { bytes = 101; lost = 10 } ∷ [];
+      running = record { bytes = 0; lost = 0 };
+      packets = 0;
+      time = some 250000006;
+      on = false;
+      count = 1;
+    }
 unfolding fed heard withReport completed withRunning bytesOf lostOf latest
 spans = (refl, refl)
 
