@@ -4,6 +4,7 @@ use mathlib.Core.Bool.{true, false}
 use lib.Dec.{T}
 use lib.Ieee.{Float, nan, inf, fin, isNan, lt}
 use Rattle.float.specs.Rust.{minimum}
+use Rattle.float.proofs.Refusal.{tested}
 use Rattle.rounding.specs.Exact.{Capped}
 use Rattle.rounding.specs.Plain.{plain}
 use Rattle.rounding.proofs.Order.{under-of-not-lt}
