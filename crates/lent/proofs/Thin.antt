@@ -1,5 +1,5 @@
--- What the walks of the two functions over a lent controller share: an answer is taken apart, its controller is stored where the lent one lies, and the
--- borrow is closed there. The steps are walked once for any types; the controller's own type, which is large, is put in at the end.
+-- For the walks by hand. Behind a call on a lent controller the answer is taken apart, its controller is stored where the lent one lies, and the borrow
+-- is closed there: the steps are walked for any types, and the controller's own type, which is large, is put in at the end. And the machine values.
 -- Assumes nothing.
 use mathlib.Core.Path.{_≡_, refl, sym, subst}
 use Prim.Native.Nat.{ℕ, zero, _+_, _<_, _^_}
@@ -27,6 +27,12 @@ use denote.Memory.{cellAt, partAt, partOf, mem}
 use denote.Steps.{closes, peeks}
 use denote.Struct.Steps.{spelt}
 use denote.Struct.Laws as LL
+use Rattle.bandwidth.specs.declared.Bitrate.{Bitrate}
+use Rattle.bandwidth.proofs.Bitrate as B
+use Rattle.bandwidth.proofs.Bitrate.Laws as B′
+use Rattle.packets.specs.declared.PacketResult.{PacketResult}
+use Rattle.packets.proofs.PacketResult as P
+use Rattle.packets.proofs.PacketResult.Laws as P′
 use Rattle.loss_controller.specs.declared.LossController.{LossController}
 use Rattle.loss_controller.specs.declared.ControllerAnswer.{ControllerAnswer}
 use Rattle.loss_controller.proofs.LossController as T
@@ -69,13 +75,24 @@ module _ {M : Type 1} {𝓤 : URA M} {H : Heap 𝓤} {A : Atoms 𝓤} {W : Given
         rewrite ! 0 (λ (τs : List Ty). ‵ (cellAt fullShare τs (v ∷ []) b o)) (sym one) refl $
         move ! (1 ∷ []) $ drop ! $ use0 W (‵ (R .own x (v ∷ []))) new $ move ! (1 ∷ 0 ∷ []) $ closes ! tt R x (v ∷ []) b o $ s
 
--- ---- the controller
+-- ---- machine values: of a controller, a rate and a packet record
 
 abbrev pub vals : LossController → List Val
 vals = LL.vals T.the-type T′.the-laws
 
 abbrev pub val : LossController → Val
 val = LL.val T.the-type T′.the-laws
+
+abbrev pub vals-b : Bitrate → List Val
+vals-b = LL.vals B.the-type B′.the-laws
+
+abbrev pub val-b : Bitrate → Val
+val-b = LL.val B.the-type B′.the-laws
+
+abbrev pub vals-p : PacketResult → List Val
+vals-p = LL.vals P.the-type P′.the-laws
+
+-- ---- answers
 
 abbrev pub answer-vals : ControllerAnswer → Vals
 answer-vals r = vcons (val (r .controller)) (vcons (vint w8 (r .refusal)) vnil)

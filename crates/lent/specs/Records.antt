@@ -27,9 +27,9 @@ flags records = map (λ (p : PacketResult). p .lost) records
 abbrev pub updateRecords : LossController → List PacketResult → Bitrate → ControllerAnswer
 updateRecords c records delay = updateBandwidthEstimate c (times records) (sizes records) (flags records) delay
 
--- ---- once the records are summed
+-- ---- for the proof alone: what the private `finish` gives, which no statement of document 01 has
 
--- 5 for more than 4,096 records, 2, the records' 3 and 8, then what a report of such totals gives
+-- of a count of records and what they summed to: 5, 2, the records' 3 and 8, then what a report of such totals gives
 unfoldable pub finished : LossController → ℕ → SummaryAnswer → Bitrate → ControllerAnswer
 finished c count summed delay =
     checked c (cond (leb count 4096) 0 5)

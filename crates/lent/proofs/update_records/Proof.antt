@@ -57,7 +57,7 @@ use Rattle.packets.specs.declared.SummaryAnswer.{SummaryAnswer}
 use Rattle.loss_controller.specs.declared.LossController.{LossController}
 use Rattle.loss_controller.specs.declared.ControllerAnswer.{ControllerAnswer}
 use Rattle.lent.proofs.Records.{none, Summed, summed-none, summed-more, summed-all, same-report}
-use Rattle.lent.proofs.Thin.{vals, val, typed}
+use Rattle.lent.proofs.Thin.{vals, val, vals-b, val-b, vals-p, typed}
 use Rattle.loss_controller.proofs.LossController as T
 use Rattle.loss_controller.proofs.LossController.Laws as T′
 use Rattle.loss_controller.proofs.ControllerAnswer as S
@@ -89,21 +89,12 @@ use Rattle.lent.proofs.update_records.Code.Mir as body
 abbrev stayed : Stays (f.ended .signature .params) (f.ended .kept)
 stayed = (stay-none (λ _. T.the-row) yes, (stay-none-slice (0 ∷ []) tt (plain (λ _. P.the-row)) yes, (stay-none (λ _. B.the-row) yes, tt)))
 
--- machine values: of the totals, a record and the delay estimate
+-- the totals' machine values
 abbrev vals-u : SummaryAnswer → List Val
 vals-u = LL.vals U.the-type U′.the-laws
 
 abbrev val-u : SummaryAnswer → Val
 val-u = LL.val U.the-type U′.the-laws
-
-abbrev vals-p : PacketResult → List Val
-vals-p = LL.vals P.the-type P′.the-laws
-
-abbrev vals-b : Bitrate → List Val
-vals-b = LL.vals B.the-type B′.the-laws
-
-abbrev val-b : Bitrate → Val
-val-b = LL.val B.the-type B′.the-laws
 
 -- a record's size is a u16
 size-fits : (p : PacketResult) → Is P.the-row p (vals-p p) → p .size ≤ largestPacket
