@@ -5,7 +5,7 @@ use mathlib.Core.Path.{_≡_, refl, sym}
 use mathlib.Core.Bool.{Bool, true, false, cond, _&&_, _||_, true≢false}
 use mathlib.Core.List.{List}
 use native.Mathlib.Omega.{arith}
-use borrow.Author.Tests.{ltb-false, le-leb, le-ltb}
+use borrow.Author.Tests.{ltb-false, le-leb, le-ltb, ne-eqb}
 use lib.Dec.{leb, ltb}
 use lib.Ieee.{inFloat}
 use Rattle.float.proofs.Refusal.{either, tested}
@@ -99,7 +99,7 @@ chosen true x y e f = e
 chosen false x y e f = f
 
 module _ (o : Observations) (h : History) (t : Tied o h) (s : PacketResultsSummary) (counted : Counted o)
-    (packets : s .«num_lost_packets» ≤ s .«num_packets») (bytes : s .«lost_size» ≤ s .«total_size») where
+    (there : s .«num_packets» ≡ 0 → ⊥) (packets : s .«num_lost_packets» ≤ s .«num_packets») (bytes : s .«lost_size» ≤ s .«total_size») where
   abbrev over : Bool
   over = beyond (o .«partial_observation» .«num_packets» + s .«num_packets») (o .«partial_observation» .size + s .«total_size»)
 
@@ -109,14 +109,14 @@ module _ (o : Observations) (h : History) (t : Tied o h) (s : PacketResultsSumma
 
   beyond-refusal : over ≡ true → Window.added o s .refusal ≡ 10
   unfolding Window.added
-  beyond-refusal e = rw (updated-beyond (o .«partial_observation») s e) refl
+  beyond-refusal e = rw (ne-eqb _ _ there, updated-beyond (o .«partial_observation») s e) refl
 
   within-refusal : over ≡ false → Window.added o s .refusal ≡ cond (Window.full o (span o s)) 11 0
   unfolding Window.added
   within-refusal e =
       let n = not-beyond (o .«partial_observation» .«num_packets» + s .«num_packets») (o .«partial_observation» .size + s .«total_size») e in
       let part : o .«partial_observation» .«lost_size» ≤ o .«partial_observation» .size = omega (arith, t .kept .part, t .bytes, t .lost) in
-      rw (updated-taken (o .«partial_observation») s e (omega arith) (omega arith))
+      rw (ne-eqb _ _ there, updated-taken (o .«partial_observation») s e (omega arith) (omega arith))
       (chosen (Window.full o (span o s)) _ _ refl
       (either (λ (a : AddedAnswer). a .refusal ≡ 0) (Window.completes (span o s)) _ _
       (completed-taken o h t (Partial.plus (o .«partial_observation») s) (span o s) (s .«last_send_time») (omega arith) (n .1) (omega arith)) refl))
@@ -136,5 +136,5 @@ cleared-counted count = omega arith
 pub added-counted : (o : Observations) (s : PacketResultsSummary) → Counted o → s .«num_lost_packets» ≤ s .«num_packets» → Counted (Window.added o s .observations)
 unfolding Window.withCeiling Window.stored Window.withPartial
 added-counted o s counted packets =
-    added-by o s (λ (a : AddedAnswer). Counted (a .observations)) (λ r n. counted) (λ u c n. omega arith)
+    added-by o s (λ (a : AddedAnswer). Counted (a .observations)) (λ n. counted) (λ r n. counted) (λ u c n. omega arith)
     (λ u c. rw (updated-sums (o .«partial_observation») s u .0) (omega arith))

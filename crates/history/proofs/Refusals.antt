@@ -4,7 +4,7 @@ use mathlib.Core.Path.{_≡_, refl, sym, ap, _∙_, subst}
 use mathlib.Core.Bool.{Bool, true, false, cond, _&&_, Bool·beq}
 use mathlib.Core.List.{List}
 use native.Mathlib.Omega.{arith}
-use borrow.Author.Tests.{eqb-true}
+use borrow.Author.Tests.{eqb-true, eqb-false}
 use lib.Dec.{T, eqb}
 use Rattle.float.proofs.Both.{both}
 use Rattle.float.specs.declared.FloatAnswer.{FloatAnswer}
@@ -51,7 +51,7 @@ TimelyAnswer a = Timely (a .observations .«last_send_time_most_recent_observati
 added-timely : (o : Observations) (s : PacketResultsSummary) → Timely (o .«last_send_time_most_recent_observation») → s .«last_send_time» ≤ 4 * 10 ^ 18 → TimelyAnswer (Window.added o s)
 unfolding Window.withCeiling Window.stored Window.withPartial Window.reference
 added-timely o s t h =
-    added-by o s TimelyAnswer (λ r n. t) (λ u c n. h)
+    added-by o s TimelyAnswer (λ n. t) (λ r n. t) (λ u c n. h)
     (λ u c. either Timely (Time.isExact (o .«last_send_time_most_recent_observation»)) _ _ t h)
 
 -- an answer with this refusal and a controller that keeps all
@@ -60,9 +60,9 @@ pub record Answers (a : ControllerAnswer) (refusal : ℕ) : Type 0 where
   pub keeps : Keeps (a .controller)
 
 -- a test that the controller and the history make alike
-alike : (b : Bool) {x y : ControllerAnswer} {m n : ℕ} → Answers x m → Answers y n → Answers (cond b x y) (cond b m n)
+alike : (b : Bool) {x y : ControllerAnswer} {m n : ℕ} → Answers x m → (b ≡ false → Answers y n) → Answers (cond b x y) (cond b m n)
 alike true p q = p
-alike false p q = q
+alike false p q = q refl
 
 module _ (c : LossController) (k : Keeps c) where
   checked-answers : (refusal : ℕ) (a : ControllerAnswer) (later : ℕ) → (refusal ≡ 0 → Answers a later) → Answers (checked c refusal a) (first refusal later)
@@ -133,13 +133,14 @@ module _ (c : LossController) (h : History) (i : Invariant c h) (k : Keeps c) wh
       let o = c .observations in
       let a = Window.added o s in
       let state = stateRefusal h (s .«num_packets») (s .«total_size») (s .«last_send_time») in
-      let refusal : a .refusal ≡ state = added-refusal o h (i .tied) s (k .counted) (parted .packets) (parted .bytes) ∙ rw (i .tied .packets) in
+      let refusal : (s .«num_packets» ≡ 0 → ⊥) → a .refusal ≡ state = λ there. added-refusal o h (i .tied) s (k .counted) there (parted .packets) (parted .bytes) ∙ rw (i .tied .packets) in
       let stored = inputs-keep c k _ d (k .acknowledged) (k .capacity) in
       let new = observations-keep _ stored (a .observations) (added-counted o s (k .counted) (parted .packets)) (added-sent o s (k .sent)) (added-timely o s (k .timely) early) in
       alike (eqb (s .«num_packets») 0) (record { told = refl; keeps = stored })
-      (checked-by (λ (b : ControllerAnswer). Answers b state) (a .refusal)
-      (λ z. let after = observed-answers c _ _ (a .completed) (added-tied o h (i .tied) s p bytes lost part z) new in record { told = after .told ∙ sym z ∙ refusal; keeps = after .keeps })
-      (λ r. record { told = refusal; keeps = k }))
+      (λ e. let there = eqb-false (s .«num_packets») 0 e in
+      checked-by (λ (b : ControllerAnswer). Answers b state) (a .refusal)
+      (λ z. let after = observed-answers c _ _ (a .completed) (added-tied o h (i .tied) s p bytes lost part there z) new in record { told = after .told ∙ sym z ∙ refusal there; keeps = after .keeps })
+      (λ r. record { told = refusal there; keeps = k }))
 
   updated-answers : (times sizes flags : List ℕ) (delay : ℕ) → Answers (Report.updateBandwidthEstimate c times sizes flags (rateOf delay)) (reportRefusal h times sizes flags delay)
   unfolding Report.updateBandwidthEstimate reportRefusal

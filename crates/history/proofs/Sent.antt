@@ -75,13 +75,14 @@ added-sent o s h =
     let span = Time.since last (Window.reference (o .«last_send_time_most_recent_observation») last) in
     let new = Window.observed (running .partial) (o .«num_observations») span in
     let ceiling = Ratio.instantUpperBound (Window.stored o (new .observation) last) in
-    either Answered (eqb (running .refusal) 10) _ _ h
+    either Answered (eqb (s .«num_packets») 0) _ _ h
+    (either Answered (eqb (running .refusal) 10) _ _ h
     (either Answered (Window.full o span) _ _ h
     (either Answered (eqb (running .refusal) 0) _ _
     (either Answered (Window.completes span) _ _
     (either Answered (eqb (new .refusal) 0) _ _ (either Answered (eqb (ceiling .refusal) 0) _ _ (each-set _ (new .observation) (observed-sent _ _ span) h) h) h)
     h)
-    h))
+    h)))
 
 -- ---- the rows
 

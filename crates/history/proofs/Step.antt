@@ -5,7 +5,7 @@ use mathlib.Core.Bool.{Bool, true, false, cond, not, Bool·beq, _&&_, true≢fal
 use mathlib.Core.List.{List, []}
 use mathlib.Core.Option.{Option, none, some}
 use native.Mathlib.Omega.{arith}
-use borrow.Author.Tests.{ne-eqb}
+use borrow.Author.Tests.{ne-eqb, eqb-false}
 use lib.Dec.{eqb, ltb}
 use Rattle.float.proofs.Refusal.{either, checked as checked-by}
 use Rattle.bandwidth.specs.declared.Bitrate.{Bitrate}
@@ -93,10 +93,10 @@ module _ (c : LossController) (h : History) (i : Invariant c h) where
       let after = reported h p (h .packets + s .«num_packets») (heldOr (h .time) (s .«last_send_time»)) (s .«last_send_time») in
       agreed (λ (a : ControllerAnswer) (after : History). Answers a h after) (eqb (s .«num_packets») 0) _ refl
       (λ e. record { tied = i .tied; on = i .on })
-      (λ e. checked-kept (Window.added (c .observations) s .refusal) _ after
+      (λ there. checked-kept (Window.added (c .observations) s .refusal) _ after
       (λ e. observed-kept _ after (Window.added (c .observations) s .completed)
       (record {
-        tied = added-tied (c .observations) h (i .tied) s p bytes lost part e;
+        tied = added-tied (c .observations) h (i .tied) s p bytes lost part (eqb-false _ _ there) e;
         on = i .on ∙ sym (reported-on p _ _ _);
       })))
 

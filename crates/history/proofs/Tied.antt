@@ -86,22 +86,24 @@ module _ (o : Observations) (s : PacketResultsSummary) where
   abbrev stored : Observations
   stored = Window.stored o (Window.observed (sums .partial) (o .«num_observations») span .observation) (Exact (s .«last_send_time»))
 
-  -- what holds of each of the three holds of the answer
+  -- what holds of each of the three, and without packets of the observations as they were, holds of the answer
   pub added-by : (P : AddedAnswer → Type 0)
+      → (s .«num_packets» ≡ 0 → P (Window.unchanged o))
       → ((refusal : ℕ) → (refusal ≡ 0 → ⊥) → P (Window.refused o refusal))
       → (sums .refusal ≡ 0 → Window.completes span ≡ true → Window.observed (sums .partial) (o .«num_observations») span .refusal ≡ 0
       → P (record { observations = Window.withCeiling stored (Ratio.instantUpperBound stored .rate); completed = true; refusal = 0 }))
       → (sums .refusal ≡ 0 → Window.completes span ≡ false → P (record { observations = Window.withPartial o (sums .partial) from; completed = false; refusal = 0 }))
       → P (Window.added o s)
   unfolding Window.added Window.completed Window.renewed
-  added-by P refused more less =
+  added-by P idle refused more less =
       let new = Window.observed (sums .partial) (o .«num_observations») span .refusal in
       let ceiling = Ratio.instantUpperBound stored .refusal in
-      tested P (eqb (sums .refusal) 10) (λ e. refused 10 (λ z. omega arith))
+      checked P (s .«num_packets») idle
+      (λ there. tested P (eqb (sums .refusal) 10) (λ e. refused 10 (λ z. omega arith))
       (λ e. tested P (Window.full o span) (λ f. refused 11 (λ z. omega arith))
       (λ f. checked P (sums .refusal)
       (λ u. tested P (Window.completes span) (λ c. checked P new (λ n. checked P ceiling (λ r. more u c n) (refused ceiling)) (refused new)) (less u))
-      (refused (sums .refusal))))
+      (refused (sums .refusal)))))
 
 -- ---- what the running sums and a new observation are, where they are not refused
 
@@ -188,11 +190,11 @@ module _ (o : Observations) (h : History) (t : Tied o h) where
         (ap pairOf (u .0) ∙ pair-is p (omega (arith, t .bytes)) (omega (arith, t .lost)), omega (arith, u .1, t .bytes), ap (λ (q : PartialObservation). q .«num_packets») (u .0) ∙ rw (t .packets))
 
     -- a report that is not refused leaves observations that are tied to the history that has heard it
-    pub added-tied : Window.added o s .refusal ≡ 0 → Tied (Window.added o s .observations) (reported h p (h .packets + s .«num_packets») (heldOr (h .time) (s .«last_send_time»)) (s .«last_send_time»))
+    pub added-tied : (s .«num_packets» ≡ 0 → ⊥) → Window.added o s .refusal ≡ 0 → Tied (Window.added o s .observations) (reported h p (h .packets + s .«num_packets») (heldOr (h .time) (s .«last_send_time»)) (s .«last_send_time»))
     unfolding reported
-    added-tied =
+    added-tied there =
         let sent = s .«last_send_time» in
-        added-by o s (λ (a : AddedAnswer). a .refusal ≡ 0 → Tied (a .observations) (reported h p counted (heldOr (h .time) sent) sent)) (λ r n z. absurd (n z))
+        added-by o s (λ (a : AddedAnswer). a .refusal ≡ 0 → Tied (a .observations) (reported h p counted (heldOr (h .time) sent) sent)) (λ n z. absurd (there n)) (λ r n z. absurd (n z))
         (λ u c n z. let q = sums-are u in let new = observed-held (sums o s .partial) (o .«num_observations») (span o s) n in
         rw (sym (completes-is sent) ∙ c) (completed-tied _ p sent (new .0) (rw (q .0) at (new .1)) (q .1) part))
         (λ u c z. let q = sums-are u in

@@ -9,10 +9,10 @@ use lib.Dec.{eqb, leb}
 use lib.ListN.{length, getD, drop, length-map}
 use Rattle.float.proofs.Fold.{fold-again, fold-end}
 use Rattle.bandwidth.specs.declared.Bitrate.{Bitrate}
-use Rattle.packets.specs.Summary.{columnsRefusal, packets, refused, addPacket, added, summaryOf, largestPacket, Within}
+use Rattle.packets.specs.Summary.{columnsRefusal, packets, refused, addPacket, added, summaryOf, isOfReport, largestPacket}
 use Rattle.packets.specs.declared.PacketResult.{PacketResult}
 use Rattle.packets.specs.declared.SummaryAnswer.{SummaryAnswer}
-use Rattle.packets.proofs.Totals.{none-within, within-larger, within-more, added-is, summary-early}
+use Rattle.packets.proofs.Totals.{TotalsOf, none-within, within-larger, within-more, of-report, added-is, summary-early}
 use Rattle.loss_controller.specs.Controller.{checked}
 use Rattle.loss_controller.specs.Controller as Controller
 use Rattle.loss_controller.specs.Setters.{rateRefusal, timeRefusal}
@@ -29,27 +29,33 @@ none = record { «local_send_time» = 0; size = 0; lost = 0 }
 abbrev whole : List PacketResult → SummaryAnswer
 whole ps = foldl addPacket (refused 0) ps
 
--- after i turns: where the records are not too many, the totals are of at most i packets, and the records that are left give the whole
+-- after i turns: where the records are not too many, the totals are of at most i packets and some report's, and the records that are left give the whole
 pub record Summed (ps : List PacketResult) (i : ℕ) (a : SummaryAnswer) : Type 0 where
-  pub within : length ps ≤ 4096 → Within i (a .summary)
+  pub within : length ps ≤ 4096 → TotalsOf i (a .summary)
+  pub passes : length ps ≤ 4096 → isOfReport (a .summary) ≡ true
   pub left : length ps ≤ 4096 → foldl addPacket a (drop i ps) ≡ whole ps
 
 pub summed-none : (ps : List PacketResult) (a : SummaryAnswer) → a ≡ refused 0 → Summed ps 0 a
-summed-none ps a e = rw e (record { within = λ few. none-within 0; left = λ few. refl })
+summed-none ps a e = rw e (record { within = λ few. none-within 0; passes = λ few. of-report _ (none-within 4096); left = λ few. refl })
 
 pub summed-more : (ps : List PacketResult) (i : ℕ) (a r : SummaryAnswer) → i < length ps → getD ps i none .size ≤ largestPacket → r ≡ added a (getD ps i none)
     → Summed ps i a → Summed ps (i + 1) r
 summed-more ps i a r l size e s =
     record {
-      within = λ few. rw (is few) (within-more i a _ size (s .within few));
+      within = more;
+      passes = λ few. of-report _ (within-larger _ (omega (arith, few, l)) (more few));
       left = λ few. fold-again addPacket a r (whole ps) ps i none l (is few) (s .left few);
     }
   where
     is : length ps ≤ 4096 → r ≡ addPacket a (getD ps i none)
     is few = e ∙ added-is a _ (within-larger _ (omega (arith, few, l)) (s .within few))
 
-pub summed-all : (ps : List PacketResult) (i : ℕ) (a : SummaryAnswer) → length ps ≤ i → Summed ps i a → length ps ≤ 4096 → a ≡ whole ps
-summed-all ps i a l s few = fold-end addPacket a (whole ps) ps i l (s .left few)
+    more : length ps ≤ 4096 → TotalsOf (i + 1) (r .summary)
+    more few = rw (is few) (within-more i a _ size (s .within few))
+
+pub summed-all : (ps : List PacketResult) (i : ℕ) (a : SummaryAnswer) → length ps ≤ i → Summed ps i a → length ps ≤ 4096
+    → (a ≡ whole ps) × (isOfReport (a .summary) ≡ true)
+summed-all ps i a l s few = (fold-end addPacket a (whole ps) ps i l (s .left few), s .passes few)
 
 -- ---- the columns
 
@@ -72,21 +78,21 @@ summary-of ps few = rw (columns-even ps, le-leb (length ps) 4096 few, columns-of
 -- ---- the report
 
 module _ (c : LossController) (ps : List PacketResult) (delay : Bitrate) where
-  -- totals of packets that were taken get neither 2 nor 3 any more
-  with-summary : length ps ≤ 4096 → rateRefusal delay ≡ 0 → updateWithSummary c (whole ps .summary) delay ≡ reported c (whole ps .summary) delay
+  -- totals of packets that were taken get neither 5 nor 2 nor 3 any more
+  with-summary : length ps ≤ 4096 → isOfReport (whole ps .summary) ≡ true → rateRefusal delay ≡ 0 → updateWithSummary c (whole ps .summary) delay ≡ reported c (whole ps .summary) delay
   unfolding updateWithSummary timeRefusal
-  with-summary few rate =
+  with-summary few passes rate =
       let early : whole ps .summary .«last_send_time» ≤ 4 * 10 ^ 18 = rw (← summary-of ps few) (summary-early (times ps) (sizes ps) (flags ps)) in
-      rw (rate, le-leb (whole ps .summary .«last_send_time») (4 * 10 ^ 18) early) refl
+      rw (passes, rate, le-leb (whole ps .summary .«last_send_time») (4 * 10 ^ 18) early) refl
 
-  after-rate : length ps ≤ 4096 → (b : Bool) → eqb (rateRefusal delay) 0 ≡ b
+  after-rate : length ps ≤ 4096 → isOfReport (whole ps .summary) ≡ true → (b : Bool) → eqb (rateRefusal delay) 0 ≡ b
       → cond b (checked c (whole ps .refusal) (updateWithSummary c (whole ps .summary) delay)) (Controller.refused c (rateRefusal delay))
       ≡ cond b (checked c (whole ps .refusal) (reported c (whole ps .summary) delay)) (Controller.refused c (rateRefusal delay))
-  after-rate few true e = rw (with-summary few (eqb-true (rateRefusal delay) 0 e)) refl
-  after-rate few false e = refl
+  after-rate few passes true e = rw (with-summary few passes (eqb-true (rateRefusal delay) 0 e)) refl
+  after-rate few passes false e = refl
 
   -- the whole call
-  pub same-report : (a : SummaryAnswer) → (length ps ≤ 4096 → a ≡ whole ps) → finished c (length ps) a delay ≡ updateRecords c ps delay
+  pub same-report : (a : SummaryAnswer) → (length ps ≤ 4096 → (a ≡ whole ps) × (isOfReport (a .summary) ≡ true)) → finished c (length ps) a delay ≡ updateRecords c ps delay
   unfolding finished updateBandwidthEstimate
   same-report a is = rw (columns-even ps) (go (leb (length ps) 4096) refl)
     where
@@ -95,5 +101,6 @@ module _ (c : LossController) (ps : List PacketResult) (delay : Bitrate) where
           ≡ (let s = summaryOf (times ps) (sizes ps) (flags ps) in checked c (cond b 0 5) (checked c (rateRefusal delay) (checked c (s .refusal) (reported c (s .summary) delay))))
       go true e =
           let few = leb-true (length ps) 4096 e in
-          rw (is few, summary-of ps few) (after-rate few (eqb (rateRefusal delay) 0) refl)
+          let same = is few in
+          rw (same .0, summary-of ps few) (after-rate few (rw (same .0) at (same .1)) (eqb (rateRefusal delay) 0) refl)
       go false e = refl

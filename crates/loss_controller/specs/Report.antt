@@ -6,7 +6,7 @@ use lib.Dec.{eqb}
 use lib.Ieee.{Float}
 use lib.Ieee.Scale.{finite}
 use Rattle.bandwidth.specs.declared.Bitrate.{Bitrate}
-use Rattle.packets.specs.Summary.{columnsRefusal, summaryOf}
+use Rattle.packets.specs.Summary.{columnsRefusal, summaryOf, isOfReport}
 use Rattle.packets.specs.declared.PacketResultsSummary.{PacketResultsSummary}
 use Rattle.observation.specs.Ratio as Ratio
 use Rattle.observation.specs.Rows as Rows
@@ -19,7 +19,7 @@ use Rattle.estimator.specs.State.{isLimitedDueToLoss}
 use Rattle.estimator.specs.Update as Update
 use Rattle.estimator.specs.declared.EstimatorAnswer.{EstimatorAnswer}
 use Rattle.estimator.specs.declared.Report.{Report}
-use Rattle.loss_controller.specs.Controller.{answered, checked, withObservations, withEstimator, withInputs}
+use Rattle.loss_controller.specs.Controller.{answered, refused, checked, withObservations, withEstimator, withInputs}
 use Rattle.loss_controller.specs.Setters.{rateRefusal, timeRefusal, isInAlr}
 use Rattle.loss_controller.specs.declared.LossController.{LossController}
 use Rattle.loss_controller.specs.declared.ControllerAnswer.{ControllerAnswer}
@@ -107,6 +107,10 @@ updateBandwidthEstimate c times sizes flags delay =
     (checked c (rateRefusal delay)
     (checked c (summary .refusal) (reported c (summary .summary) delay)))
 
--- of packets that are summed up already: 2, 3, then 10, 11
+-- of packets that are summed up already: 5 for totals that no report of at most 4,096 packets has, 2, 3, then 10, 11
 unfoldable pub updateWithSummary : LossController → PacketResultsSummary → Bitrate → ControllerAnswer
-updateWithSummary c s delay = checked c (rateRefusal delay) (checked c (timeRefusal (s .«last_send_time»)) (reported c s delay))
+updateWithSummary c s delay =
+    cond (isOfReport s)
+    (checked c (rateRefusal delay)
+    (checked c (timeRefusal (s .«last_send_time»)) (reported c s delay)))
+    (refused c 5)

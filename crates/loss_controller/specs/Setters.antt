@@ -1,5 +1,5 @@
 -- The four setters, and the codes 2 and 3. Definitions only.
-use Prim.Native.Nat.{ℕ, _*_, _^_}
+use Prim.Native.Nat.{ℕ}
 use mathlib.Core.Bool.{Bool, true, false, cond, Bool·beq, _&&_, _||_}
 use lib.Dec.{leb}
 use lib.Ieee.{Float, lt}
@@ -10,6 +10,7 @@ use Rattle.bandwidth.specs.Rate.{rate}
 use Rattle.bandwidth.specs.declared.Bitrate.{Bitrate}
 use Rattle.bandwidth.specs.declared.OptionBitrate.{OptionBitrate}
 use Rattle.bandwidth.specs.declared.OptionBitrate.the-variants.{Some, None}
+use Rattle.packets.specs.Summary.{latestTime}
 use Rattle.observation.specs.Window.{cleared}
 use Rattle.loss_controller.specs.Controller.{answered, checked, withObservations, withEstimator, withInputs}
 use Rattle.loss_controller.specs.declared.OptionInstant.{OptionInstant}
@@ -37,7 +38,7 @@ capacityRefusal None = 0
 
 -- "3: a time above 4×10^18 ns."
 unfoldable pub timeRefusal : ℕ → ℕ
-timeRefusal t = cond (leb t (4 * 10 ^ 18)) 0 3
+timeRefusal t = cond (leb t latestTime) 0 3
 
 unfoldable pub startRefusal : OptionInstant → ℕ
 startRefusal (On start) = timeRefusal start

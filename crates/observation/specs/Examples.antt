@@ -20,7 +20,7 @@ use Rattle.packets.specs.declared.PacketResultsSummary.{PacketResultsSummary}
 use Rattle.likelihood.specs.declared.Row.{Row}
 use Rattle.observation.specs.Partial as Partial
 use Rattle.observation.specs.Ratio.{age, window, readable, reported, highLossLimit, instantLimit, instantUpperBound, validOrMax, cached}
-use Rattle.observation.specs.Window.{dummy, cleared, reference, completes, full, observed, stored, withCeiling, withPartial, renewed, completed, added}
+use Rattle.observation.specs.Window.{dummy, cleared, reference, completes, full, observed, stored, withCeiling, withPartial, renewed, completed, unchanged, added}
 use Rattle.observation.specs.Rows.{rowOf}
 use Rattle.observation.specs.declared.Observation.{Observation}
 use Rattle.observation.specs.declared.Observations.{Observations}
@@ -58,6 +58,13 @@ three-reports : three .«num_observations» ≡ 2
     × toBits binary64 (cached (three .«cached_instant_upper_bound») .bps) ≡ 0x4132EAF2B8C0337F
 unfolding add div eq inFloat lt mul ofBits ofInt sub toBits seconds ordered Rate.over Delta.difference Delta.inSeconds Delta.order Delta.rate Time.since weight lossRatio Partial.updated age window readable reported instantLimit instantUpperBound validOrMax cached cleared reference completes full observed stored withCeiling withPartial renewed completed added
 three-reports = (refl, refl, refl, refl)
+
+-- a summary of no packets changes nothing, whatever else it says: neither the reference time where there is none yet, nor the running sums, nor the count
+no-packets : added (cleared 3) (report 0 0 0 0 0) ≡ unchanged (cleared 3)
+    × added three (report 0 0 0 0 4000000000) ≡ unchanged three
+    × added three (report 0 1 1000000000001 9 4000000000) ≡ unchanged three
+unfolding added
+no-packets = (refl, refl, refl)
 
 -- ---- a full window after seventeen observations, the newest in slot 1
 

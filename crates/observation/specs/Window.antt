@@ -129,6 +129,10 @@ withPartial o p reference =
 abbrev pub refused : Observations → ℕ → AddedAnswer
 refused o refusal = record { observations = o; completed = false; refusal = refusal }
 
+-- and without one: no observation is complete
+abbrev pub unchanged : Observations → AddedAnswer
+unchanged o = record { observations = o; completed = false; refusal = 0 }
+
 -- "recompute the ceiling": the window's with the newest observation in it
 unfoldable pub renewed : Observations → Observations → AddedAnswer
 renewed o new =
@@ -141,15 +145,17 @@ completed o p span last =
     let new = observed p (o .«num_observations») span in
     cond (eqb (new .refusal) 0) (renewed o (stored o (new .observation) last)) (refused o (new .refusal))
 
--- the report's sums are added; it completes an observation where its latest send time is more than 250 ms after the reference time. Refusals: 10, 11, then 7
+-- no packets, the Rust's `None`: nothing changes. Else the report's sums are added, and it completes an observation where its latest send time is more than
+-- 250 ms after the reference time. Refusals: 10, 11, then 7
 unfoldable pub added : Observations → PacketResultsSummary → AddedAnswer
 added o s =
     let last = Exact (s .«last_send_time») in
     let running = Partial.updated (o .«partial_observation») s in
     let from = reference (o .«last_send_time_most_recent_observation») last in
     let span = Time.since last from in
-    cond (eqb (running .refusal) 10) (refused o 10)
+    cond (eqb (s .«num_packets») 0) (unchanged o)
+    (cond (eqb (running .refusal) 10) (refused o 10)
     (cond (full o span) (refused o 11)
     (cond (eqb (running .refusal) 0)
     (cond (completes span) (completed o (running .partial) span last) (record { observations = withPartial o (running .partial) from; completed = false; refusal = 0 }))
-    (refused o (running .refusal))))
+    (refused o (running .refusal)))))

@@ -261,11 +261,18 @@ impl Observations {
         cleared(self.num_observations)
     }
 
-    // After the report's summary; called for a report with packets. The refusals come in the order
-    // 10, 11, 7.
+    // After the report's summary, which is the Rust's None where there are no packets. The refusals
+    // come in the order 10, 11, 7.
     pub fn maybe_add_observation(self, summary: PacketResultsSummary) -> AddedAnswer
         ensures { λ r. ⌜ r ≡ Window.added self summary ⌝ }
     {
+        if summary.num_packets == 0 {
+            return AddedAnswer {
+                observations: self,
+                completed: false,
+                refusal: 0,
+            };
+        }
         let last_send_time = Timestamp::from_instant(summary.last_send_time);
         let partial = self.partial_observation;
         let updated = partial.update(summary);

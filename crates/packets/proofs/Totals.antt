@@ -1,17 +1,32 @@
 -- The list of packets that three columns of one length make, and how far one packet takes the totals. Assumes nothing.
-use Prim.Native.Nat.{ℕ, zero, suc, _+_, _*_, _^_, _≤_, _<_}
+use Prim.Native.Nat.{ℕ, zero, suc, _+_, _-_, _*_, _≤_, _<_}
 use mathlib.Core.Path.{_≡_, refl, ap}
-use mathlib.Core.Bool.{Bool, true, false, cond, _&&_}
+use mathlib.Core.Bool.{Bool, true, false, cond, _&&_, _||_}
 use mathlib.Core.List.{List, [], _∷_, foldl}
+use mathlib.Core.Logic.{_⊎_, inl, inr, ⊎-elim}
 use native.Mathlib.Nat.{mul-le-mul-left, mul-one}
 use native.Mathlib.Omega.{arith}
-use borrow.Author.Tests.{eqb-true, leb-true, le-leb}
+use borrow.Author.Tests.{eqb-true, leb-true, le-leb, lt-ltb}
 use lib.Dec.{eqb, leb, ltb, lit≤}
 use lib.ListN.{length, getD, drop}
 use Rattle.float.proofs.Fold.{fold-again, fold-end}
 use Rattle.float.proofs.Refusal.{either, checked}
 use Rattle.float.proofs.Both.{both}
-use Rattle.packets.specs.Summary.{columnsRefusal, packets, packetRefusal, empty, refused, plus, addPacket, takesAnother, added, summaryOf, largestPacket, Within}
+use Rattle.packets.specs.Summary.{
+  mostPackets,
+  latestTime,
+  largestPacket,
+  columnsRefusal,
+  packets,
+  packetRefusal,
+  empty,
+  refused,
+  plus,
+  addPacket,
+  summaryOf,
+  isOfReport,
+  added,
+}
 use Rattle.packets.specs.declared.PacketResult.{PacketResult}
 use Rattle.packets.specs.declared.PacketResultsSummary.{PacketResultsSummary}
 use Rattle.packets.specs.declared.SummaryAnswer.{SummaryAnswer}
@@ -22,13 +37,13 @@ use Rattle.packets.specs.declared.SummaryAnswer.{SummaryAnswer}
 pub record Even (times sizes flags : List ℕ) : Type 0 where
   pub sizes-even : length sizes ≡ length times
   pub flags-even : length flags ≡ length times
-  pub few : length times ≤ 4096
+  pub few : length times ≤ mostPackets
 
 pub not-refused : (times sizes flags : List ℕ) → columnsRefusal times sizes flags ≡ 0 → Even times sizes flags
 unfolding columnsRefusal
-not-refused times sizes flags = go (eqb (length sizes) (length times)) (eqb (length flags) (length times)) (leb (length times) 4096) refl refl refl
+not-refused times sizes flags = go (eqb (length sizes) (length times)) (eqb (length flags) (length times)) (leb (length times) mostPackets) refl refl refl
   where
-    go : (p q r : Bool) → eqb (length sizes) (length times) ≡ p → eqb (length flags) (length times) ≡ q → leb (length times) 4096 ≡ r
+    go : (p q r : Bool) → eqb (length sizes) (length times) ≡ p → eqb (length flags) (length times) ≡ q → leb (length times) mostPackets ≡ r
         → _≡_ {A = ℕ} (cond (p && q) (cond r 0 5) 4) 0 → Even times sizes flags
     go true true true a b d h = record { sizes-even = eqb-true _ _ a; flags-even = eqb-true _ _ b; few = leb-true _ _ d }
     go true true false a b d h = absurd (omega arith)
@@ -72,22 +87,31 @@ module _ {times sizes flags : List ℕ} (e : Even times sizes flags) where
 
 pub flag-small : (p : PacketResult) → packetRefusal p ≡ 0 → p .lost ≤ 1
 unfolding packetRefusal
-flag-small p = go (leb (p .«local_send_time») (4 * 10 ^ 18)) (leb (p .lost) 1) refl
+flag-small p = go (leb (p .«local_send_time») latestTime) (leb (p .lost) 1) refl
   where
     go : (a b : Bool) → leb (p .lost) 1 ≡ b → _≡_ {A = ℕ} (cond a (cond b 0 8) 3) 0 → p .lost ≤ 1
     go true true k h = leb-true _ _ k
     go true false k h = absurd (omega arith)
     go false b k h = absurd (omega arith)
 
+-- a packet that is taken arrived, and adds no lost bytes, or was lost, and adds its own
+lost-or-not : (p : PacketResult) → packetRefusal p ≡ 0 → ((p .lost ≡ 0) × (p .size * p .lost ≡ 0)) ⊎ ((p .lost ≡ 1) × (p .size * p .lost ≡ p .size))
+lost-or-not p h = go (p .lost) (flag-small p h)
+  where
+    go : (f : ℕ) → f ≤ 1 → ((f ≡ 0) × (p .size * f ≡ 0)) ⊎ ((f ≡ 1) × (p .size * f ≡ p .size))
+    go zero k = inl (refl, omega arith)
+    go (suc zero) k = inr (refl, mul-one (p .size))
+    go (suc (suc f)) k = absurd (omega arith)
+
 pub lost-part : (p : PacketResult) → packetRefusal p ≡ 0 → p .size * p .lost ≤ p .size
 lost-part p h = omega (arith, mul-le-mul-left (p .size) (flag-small p h), mul-one (p .size))
 
 -- the send time of a packet that code 3 takes
-pub packet-early : (p : PacketResult) → packetRefusal p ≡ 0 → p .«local_send_time» ≤ 4 * 10 ^ 18
+pub packet-early : (p : PacketResult) → packetRefusal p ≡ 0 → p .«local_send_time» ≤ latestTime
 unfolding packetRefusal
-packet-early p = go (leb (p .«local_send_time») (4 * 10 ^ 18)) (leb (p .lost) 1) refl
+packet-early p = go (leb (p .«local_send_time») latestTime) (leb (p .lost) 1) refl
   where
-    go : (a b : Bool) → leb (p .«local_send_time») (4 * 10 ^ 18) ≡ a → _≡_ {A = ℕ} (cond a (cond b 0 8) 3) 0 → p .«local_send_time» ≤ 4 * 10 ^ 18
+    go : (a b : Bool) → leb (p .«local_send_time») latestTime ≡ a → _≡_ {A = ℕ} (cond a (cond b 0 8) 3) 0 → p .«local_send_time» ≤ latestTime
     go true b e h = leb-true _ _ e
     go false b e h = absurd (omega arith)
 
@@ -107,54 +131,106 @@ summary-holds P none more times sizes flags =
         h)
 
 -- no summary has a later send time than that
-pub summary-early : (times sizes flags : List ℕ) → summaryOf times sizes flags .summary .«last_send_time» ≤ 4 * 10 ^ 18
+pub summary-early : (times sizes flags : List ℕ) → summaryOf times sizes flags .summary .«last_send_time» ≤ latestTime
 summary-early =
-    summary-holds (λ (s : PacketResultsSummary). s .«last_send_time» ≤ 4 * 10 ^ 18) (lit≤ tt)
-    (λ s p e h. either (λ (t : ℕ). t ≤ 4 * 10 ^ 18) (ltb (s .«last_send_time») (p .«local_send_time»)) _ _ (packet-early p e) h)
+    summary-holds (λ (s : PacketResultsSummary). s .«last_send_time» ≤ latestTime) (lit≤ tt)
+    (λ s p e h. either (λ (t : ℕ). t ≤ latestTime) (ltb (s .«last_send_time») (p .«local_send_time»)) _ _ (packet-early p e) h)
 
-pub none-within : (n : ℕ) → Within n empty
-none-within n = record { packets-within = omega arith; lost-packets-within = omega arith; size-within = omega arith; lost-size-within = omega arith }
+-- the totals of at most n packets
+pub record TotalsOf (n : ℕ) (s : PacketResultsSummary) : Type 0 where
+  pub packets-within : s .«num_packets» ≤ n
+  pub lost-packets-within : s .«num_lost_packets» ≤ s .«num_packets»
+  pub lost-size-within : s .«lost_size» ≤ s .«total_size»
+  pub lost-within : s .«lost_size» ≤ largestPacket * s .«num_lost_packets»
+  pub others-within : s .«total_size» - s .«lost_size» ≤ largestPacket * (s .«num_packets» - s .«num_lost_packets»)
+  pub timed : s .«num_packets» ≡ 0 → s .«last_send_time» ≡ 0
 
-pub within-larger : {m n : ℕ} (s : PacketResultsSummary) → m ≤ n → Within m s → Within n s
+pub none-within : (n : ℕ) → TotalsOf n empty
+none-within n =
+    record {
+      packets-within = omega arith;
+      lost-packets-within = omega arith;
+      lost-size-within = omega arith;
+      lost-within = omega arith;
+      others-within = omega arith;
+      timed = λ z. refl;
+    }
+
+pub within-larger : {m n : ℕ} (s : PacketResultsSummary) → m ≤ n → TotalsOf m s → TotalsOf n s
 within-larger s h w =
     record {
       packets-within = omega (arith, w .packets-within);
       lost-packets-within = w .lost-packets-within;
-      size-within = omega (arith, w .size-within);
       lost-size-within = w .lost-size-within;
+      lost-within = w .lost-within;
+      others-within = w .others-within;
+      timed = w .timed;
     }
 
--- a packet takes the totals no further than a packet of the largest size does
-pub within-more : (n : ℕ) (a : SummaryAnswer) (p : PacketResult) → p .size ≤ largestPacket → Within n (a .summary) → Within (n + 1) (addPacket a p .summary)
+-- a packet of no more than the largest size makes them totals of one packet more
+plus-within : (n : ℕ) (s : PacketResultsSummary) (p : PacketResult) → packetRefusal p ≡ 0 → p .size ≤ largestPacket → TotalsOf n s → TotalsOf (n + 1) (plus s p)
+plus-within n s p e size w =
+    ⊎-elim
+    (λ k. record {
+      packets-within = omega (arith, w .packets-within);
+      lost-packets-within = omega (arith, w .lost-packets-within, k .0);
+      lost-size-within = omega (arith, w .lost-size-within, k .1);
+      lost-within = omega (arith, w .lost-within, k .0, k .1);
+      others-within = omega (arith, w .others-within, w .lost-size-within, w .lost-packets-within, k .0, k .1);
+      timed = λ z. absurd (omega arith);
+    })
+    (λ k. record {
+      packets-within = omega (arith, w .packets-within);
+      lost-packets-within = omega (arith, w .lost-packets-within, k .0);
+      lost-size-within = omega (arith, w .lost-size-within, k .1);
+      lost-within = omega (arith, w .lost-within, k .0, k .1);
+      others-within = omega (arith, w .others-within, w .lost-size-within, w .lost-packets-within, k .0, k .1);
+      timed = λ z. absurd (omega arith);
+    })
+    (lost-or-not p e)
+
+pub within-more : (n : ℕ) (a : SummaryAnswer) (p : PacketResult) → p .size ≤ largestPacket → TotalsOf n (a .summary) → TotalsOf (n + 1) (addPacket a p .summary)
 unfolding addPacket
-within-more n a p s w = go (eqb (a .refusal) 0) (eqb (packetRefusal p) 0) refl
+within-more n a p size w =
+    let P : SummaryAnswer → Type 0 = λ a. TotalsOf (n + 1) (a .summary) in
+    either P (eqb (a .refusal) 0) _ a
+    (checked P (packetRefusal p) (λ e. plus-within n (a .summary) p e size w) (λ r. none-within (n + 1)))
+    (within-larger (a .summary) (omega arith) w)
+
+-- ---- the test for totals
+
+pub of-report : (s : PacketResultsSummary) → TotalsOf mostPackets s → isOfReport s ≡ true
+unfolding isOfReport
+of-report s w =
+    rw (le-leb _ _ (w .packets-within), le-leb _ _ (w .lost-packets-within), le-leb _ _ (w .lost-size-within), le-leb _ _ (w .lost-within), le-leb _ _ (w .others-within))
+    (go (s .«num_packets») refl)
   where
-    go : (t u : Bool) → eqb (packetRefusal p) 0 ≡ u
-        → Within (n + 1) (cond t (cond u (record { summary = plus (a .summary) p; refusal = 0 }) (refused (packetRefusal p))) a .summary)
-    go true true k =
-        let h = eqb-true (packetRefusal p) 0 k in
-        record {
-          packets-within = omega (arith, w .packets-within);
-          lost-packets-within = omega (arith, w .lost-packets-within, flag-small p h);
-          size-within = omega (arith, w .size-within);
-          lost-size-within = omega (arith, w .lost-size-within, lost-part p h);
-        }
-    go true false k = none-within (n + 1)
-    go false u k = within-larger (a .summary) (omega arith) w
+    go : (n : ℕ) → s .«num_packets» ≡ n → ltb 0 (s .«num_packets») || eqb (s .«last_send_time») 0 ≡ true
+    go zero e = rw (e, w .timed e) refl
+    go (suc n) e = rw (lt-ltb 0 (s .«num_packets») (omega arith)) refl
 
--- ---- one packet more, whatever the totals
-
-pub takes-within : (s : PacketResultsSummary) → takesAnother s ≡ true → Within 4095 s
-unfolding takesAnother
-takes-within s e =
-    let lost-size = leb (s .«lost_size») (s .«total_size») in
-    let sizes = leb (s .«total_size») (largestPacket * 4095) && lost-size in
-    let p = both (leb (s .«num_packets») 4095) (leb (s .«num_lost_packets») (s .«num_packets») && sizes) e in
+pub totals-of : (s : PacketResultsSummary) → isOfReport s ≡ true → TotalsOf mostPackets s
+unfolding isOfReport
+totals-of s e =
+    let timed = ltb 0 (s .«num_packets») || eqb (s .«last_send_time») 0 in
+    let others = leb (s .«total_size» - s .«lost_size») (largestPacket * (s .«num_packets» - s .«num_lost_packets»)) && timed in
+    let lost = leb (s .«lost_size») (largestPacket * s .«num_lost_packets») && others in
+    let sizes = leb (s .«lost_size») (s .«total_size») && lost in
+    let p = both (leb (s .«num_packets») mostPackets) (leb (s .«num_lost_packets») (s .«num_packets») && sizes) e in
     let q = both (leb (s .«num_lost_packets») (s .«num_packets»)) sizes (p .1) in
-    let r = both (leb (s .«total_size») (largestPacket * 4095)) lost-size (q .1) in
-    record { packets-within = leb-true _ _ (p .0); lost-packets-within = leb-true _ _ (q .0); size-within = leb-true _ _ (r .0); lost-size-within = leb-true _ _ (r .1) }
+    let r = both (leb (s .«lost_size») (s .«total_size»)) lost (q .1) in
+    let t = both (leb (s .«lost_size») (largestPacket * s .«num_lost_packets»)) others (r .1) in
+    let u = both (leb (s .«total_size» - s .«lost_size») (largestPacket * (s .«num_packets» - s .«num_lost_packets»))) timed (t .1) in
+    record {
+      packets-within = leb-true _ _ (p .0);
+      lost-packets-within = leb-true _ _ (q .0);
+      lost-size-within = leb-true _ _ (r .0);
+      lost-within = leb-true _ _ (t .0);
+      others-within = leb-true _ _ (u .0);
+      timed = λ z. eqb-true _ _ (rw z at (u .1));
+    }
 
--- it is `addPacket` on the totals of fewer than 4,096 packets
-pub added-is : (a : SummaryAnswer) (p : PacketResult) → Within 4095 (a .summary) → added a p ≡ addPacket a p
-unfolding added takesAnother
-added-is a p w = rw (le-leb _ _ (w .packets-within), le-leb _ _ (w .lost-packets-within), le-leb _ _ (w .size-within), le-leb _ _ (w .lost-size-within)) refl
+-- one packet more is `addPacket` on the totals of fewer than 4,096 packets
+pub added-is : (a : SummaryAnswer) (p : PacketResult) → TotalsOf 4095 (a .summary) → added a p ≡ addPacket a p
+unfolding added
+added-is a p w = rw (of-report (a .summary) (within-larger _ (lit≤ tt) w), lt-ltb (a .summary .«num_packets») mostPackets (omega (arith, w .packets-within))) refl

@@ -1,6 +1,6 @@
 -- The packets of a report and their totals. Definitions only.
-use Prim.Native.Nat.{ℕ, _+_, _*_, _^_, _≤_}
-use mathlib.Core.Bool.{Bool, cond, _&&_}
+use Prim.Native.Nat.{ℕ, _+_, _-_, _*_, _^_}
+use mathlib.Core.Bool.{Bool, cond, _&&_, _||_}
 use mathlib.Core.List.{List, [], _∷_, foldl}
 use lib.Dec.{eqb, leb, ltb}
 use lib.ListN.{length}
@@ -8,13 +8,27 @@ use Rattle.packets.specs.declared.PacketResult.{PacketResult}
 use Rattle.packets.specs.declared.PacketResultsSummary.{PacketResultsSummary}
 use Rattle.packets.specs.declared.SummaryAnswer.{SummaryAnswer}
 
+-- ---- limits
+
+-- "5: more than 4,096 packets"
+abbrev pub mostPackets : ℕ
+mostPackets = 4096
+
+-- "3: a time above 4×10^18 ns"
+abbrev pub latestTime : ℕ
+latestTime = 4 * 10 ^ 18
+
+-- "sizes 16-bit"
+abbrev pub largestPacket : ℕ
+largestPacket = 65535
+
 -- ---- columns
 
 -- "A report checks 4, 5": columns of unequal length, then more than 4,096 packets
 unfoldable pub columnsRefusal : List ℕ → List ℕ → List ℕ → ℕ
 columnsRefusal times sizes flags =
     cond (eqb (length sizes) (length times) && eqb (length flags) (length times))
-    (cond (leb (length times) 4096) 0 5)
+    (cond (leb (length times) mostPackets) 0 5)
     4
 
 -- the packets that three columns of one length tell of, in their order
@@ -27,7 +41,7 @@ packets [] sizes flags = []
 
 -- "then each packet's 3 and 8": a time above 4×10^18 ns, then a flag neither 0 nor 1
 unfoldable pub packetRefusal : PacketResult → ℕ
-packetRefusal p = cond (leb (p .«local_send_time») (4 * 10 ^ 18)) (cond (leb (p .lost) 1) 0 8) 3
+packetRefusal p = cond (leb (p .«local_send_time») latestTime) (cond (leb (p .lost) 1) 0 8) 3
 
 -- ---- totals
 
@@ -66,31 +80,21 @@ summaryOf times sizes flags =
     (foldl addPacket (refused 0) (packets times sizes flags))
     (refused (columnsRefusal times sizes flags))
 
--- ---- how large
+-- ---- totals that are summed up already
 
--- PacketSize's largest value
-abbrev pub largestPacket : ℕ
-largestPacket = 65535
+-- whether some report has these totals: of at most 4,096 packets some are lost, and the lost ones and the others have at most 65,535 bytes each; without
+-- packets there is no send time
+unfoldable pub isOfReport : PacketResultsSummary → Bool
+isOfReport s =
+    leb (s .«num_packets») mostPackets
+    && (leb (s .«num_lost_packets») (s .«num_packets»)
+    && (leb (s .«lost_size») (s .«total_size»)
+    && (leb (s .«lost_size») (largestPacket * s .«num_lost_packets»)
+    && (leb (s .«total_size» - s .«lost_size») (largestPacket * (s .«num_packets» - s .«num_lost_packets»))
+    && (ltb 0 (s .«num_packets») || eqb (s .«last_send_time») 0)))))
 
--- the totals of at most n packets
-pub record Within (n : ℕ) (s : PacketResultsSummary) : Type 0 where
-  pub packets-within : s .«num_packets» ≤ n
-  pub lost-packets-within : s .«num_lost_packets» ≤ s .«num_packets»
-  pub size-within : s .«total_size» ≤ largestPacket * n
-  pub lost-size-within : s .«lost_size» ≤ s .«total_size»
-
--- those of a report, which are zeros where it is refused
-abbrev pub Bounded : PacketResultsSummary → Type 0
-Bounded s = Within 4096 s
-
--- ---- one packet more, whatever the totals
-
--- `Within 4095`, as a test
-unfoldable pub takesAnother : PacketResultsSummary → Bool
-takesAnother s =
-    leb (s .«num_packets») 4095 && (leb (s .«num_lost_packets») (s .«num_packets»)
-    && (leb (s .«total_size») (largestPacket * 4095) && leb (s .«lost_size») (s .«total_size»)))
-
--- `addPacket` where the totals are those of fewer than 4,096 packets; else the packet would be one too many
+-- one packet more, for a caller's own loop: 5 beside totals that no report has, and for a packet that is one too many
 unfoldable pub added : SummaryAnswer → PacketResult → SummaryAnswer
-added answer p = cond (takesAnother (answer .summary)) (addPacket answer p) (refused 5)
+added answer p =
+    let s = answer .summary in
+    cond (isOfReport s && ltb (s .«num_packets») mostPackets) (addPacket answer p) (refused 5)

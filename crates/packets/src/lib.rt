@@ -1,13 +1,17 @@
 // The packets of a report, lent in three columns, and their totals: `PacketResult` and
 // `PacketResultsSummary` of loss_controller.rs. Instants are numbers of ns.
 ghost use mathlib.Core.Path.{_≡_};
+ghost use mathlib.Core.Bool.{true};
 ghost use Prim.Native.Nat.{_<_};
-ghost use Rattle.packets.specs.Summary.{columnsRefusal, packetRefusal, empty, refused, later, addPacket, takesAnother, added, summaryOf, Within, Bounded};
+ghost use Rattle.packets.specs.Summary.{mostPackets, columnsRefusal, packetRefusal, refused, later, addPacket, isOfReport, added, summaryOf};
 
 // A packet's bytes.
 pub type PacketSize = u16;
 
 pub const MOST_PACKETS_IN_REPORT: usize = 4_096;
+
+// A `PacketSize`'s largest value
+const LARGEST_PACKET: u64 = 65_535;
 
 // 4 * 10^18 ns
 pub const LATEST_TIME: u64 = 4_000_000_000_000_000_000;
@@ -44,24 +48,33 @@ impl PacketResultsSummary {
         last_send_time: 0,
     };
 
-    // Whether these can be the totals of fewer than 4,096 packets, so that one more fits.
-    fn takes_another(self) -> bool
-        ensures { λ r. ⌜ r ≡ takesAnother self ⌝ }
+    // Whether some report has these totals.
+    pub fn is_of_report(self) -> bool
+        ensures { λ r. ⌜ r ≡ isOfReport self ⌝ }
     {
-        if self.num_packets > 4_095 {
+        let num_packets = self.num_packets;
+        let num_lost_packets = self.num_lost_packets;
+        let total_size = self.total_size;
+        let lost_size = self.lost_size;
+        if num_packets > MOST_PACKETS_IN_REPORT as u64 {
             return false;
         }
-        if self.num_lost_packets > self.num_packets {
+        if num_lost_packets > num_packets {
             return false;
         }
-        // 4,095 packets of the largest size
-        if self.total_size > 268_365_825 {
+        if lost_size > total_size {
             return false;
         }
-        if self.lost_size > self.total_size {
+        if lost_size > LARGEST_PACKET * num_lost_packets {
             return false;
         }
-        true
+        if total_size - lost_size > LARGEST_PACKET * (num_packets - num_lost_packets) {
+            return false;
+        }
+        if num_packets > 0 {
+            return true;
+        }
+        self.last_send_time == 0
     }
 }
 
@@ -120,7 +133,7 @@ impl SummaryAnswer {
 
     // One packet more. The first refusal stays.
     fn add_packet(self, packet: PacketResult) -> SummaryAnswer
-        requires { ⌜ Within 4095 (self .summary) ⌝ }
+        requires { ⌜ (isOfReport (self .summary) ≡ true) × (self .summary .«num_packets» < mostPackets) ⌝ }
         ensures { λ r. ⌜ r ≡ addPacket self packet ⌝ }
     {
         let before = self.refusal;
@@ -151,7 +164,10 @@ impl SummaryAnswer {
         ensures { λ r. ⌜ r ≡ added self packet ⌝ }
     {
         let summary = self.summary;
-        if !summary.takes_another() {
+        if !summary.is_of_report() {
+            return SummaryAnswer::refused(5);
+        }
+        if summary.num_packets >= MOST_PACKETS_IN_REPORT as u64 {
             return SummaryAnswer::refused(5);
         }
         self.add_packet(packet)
@@ -161,7 +177,6 @@ impl SummaryAnswer {
 // PacketResultsSummary::from. Without packets it is EMPTY, where Rust has none.
 pub fn summary(times: &[u64], sizes: &[PacketSize], flags: &[u8]) -> SummaryAnswer
     ensures { λ r. ⌜ r ≡ summaryOf (now (times .entry)) (now (sizes .entry)) (now (flags .entry)) ⌝ }
-    ensures { λ r. ⌜ Bounded (r .summary) ⌝ }
 {
     let refusal = columns_refusal(times, sizes, flags);
     if refusal != 0 {

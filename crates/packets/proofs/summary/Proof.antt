@@ -7,14 +7,14 @@ use native.Mathlib.Omega.{arith}
 use borrow.Author.Needs.{needs}
 use borrow.Author.Tests.{eq-eqb, ne-eqb}
 use lib.ListN.{length, drop, getD}
-use Rattle.packets.specs.Summary.{packets, refused, addPacket, summaryOf, largestPacket, Within}
-use Rattle.packets.proofs.Totals.{Even, not-refused, columns-again, columns-end, none-within, within-larger, within-more}
+use Rattle.packets.specs.Summary.{packets, refused, addPacket, summaryOf, largestPacket}
+use Rattle.packets.proofs.Totals.{TotalsOf, Even, not-refused, columns-again, columns-end, none-within, within-larger, within-more, of-report}
 use Rattle.packets.proofs.summary.Statement.{statement}
 use Rattle.packets.proofs.summary.Tie as tie
 
 abbrev Inv-loop : tie.InvT-loop
 Inv-loop times sizes flags refusal answer₀ i₀ answer i =
-    (i ≤ length times) × Within i (answer .summary) × Even times sizes flags
+    (i ≤ length times) × TotalsOf i (answer .summary) × Even times sizes flags
     × (foldl addPacket answer (drop i (packets times sizes flags)) ≡ foldl addPacket (refused 0) (packets times sizes flags))
 
 abbrev μ-loop : tie.MeasureT-loop
@@ -28,7 +28,7 @@ refused-requires c κs = search needs
 
 returns : tie.Need-returns Inv-loop μ-loop
 unfolding summaryOf
-returns c = (rw (← c .before .before .columns-refusal .ensures, ne-eqb _ _ (c .before .if1 .taken)) (c .refused .ensures), rw (c .refused .ensures) (none-within 4096))
+returns c = rw (← c .before .before .columns-refusal .ensures, ne-eqb _ _ (c .before .if1 .taken)) (c .refused .ensures)
 
 refused-requires-2 : tie.Need-refused-requires-2 Inv-loop μ-loop
 refused-requires-2 c κs = search needs
@@ -55,7 +55,8 @@ shared-slice-read-t17 c = search needs
 add-packet-requires : tie.Need-add-packet-requires Inv-loop μ-loop
 add-packet-requires c κs =
     let b = c .before .before .before .before in
-    within-larger _ (omega (arith, b .loop .inv .2 .few)) (b .loop .inv .1)
+    let totals = b .loop .inv .1 in
+    (of-report _ (within-larger _ (omega (arith, b .loop .inv .2 .few)) totals), omega (arith, b .loop .inv .2 .few, totals .packets-within))
 
 add-i : tie.Need-add-i Inv-loop μ-loop
 add-i c = search needs
@@ -81,11 +82,8 @@ unfolding summaryOf
 returns-2 c =
     let b = c .before in
     let i = b .loop .inv in
-    let e = i .2 in (
-      rw (← b .before .before .before .columns-refusal .ensures, eq-eqb _ _ (b .before .before .if1 .left))
-          (columns-end e _ _ _ (c .loop-test .left) (i .3)),
-      within-larger _ (omega (arith, i .0, e .few)) (i .1),
-    )
+    rw (← b .before .before .before .columns-refusal .ensures, eq-eqb _ _ (b .before .before .if1 .left))
+    (columns-end (i .2) _ _ _ (c .loop-test .left) (i .3))
 
 pub summary-spec : {M : Type 1} → statement M
 summary-spec =

@@ -37,7 +37,7 @@ returns-3 : tie.Need-returns-3
 unfolding updateBandwidthEstimate
 returns-3 c =
     let b = c .before .before .before .before in
-    rw (← b .before .before .columns-refusal .ensures, eq-eqb _ _ (b .before .if1 .left), ← b .rate-refusal .ensures, eq-eqb _ _ (c .before .before .before .if2 .left), ← c .before .before .summary .ensures .0, ne-eqb _ _ (c .before .if3 .taken), ← c .refused3 .ensures)
+    rw (← b .before .before .columns-refusal .ensures, eq-eqb _ _ (b .before .if1 .left), ← b .rate-refusal .ensures, eq-eqb _ _ (c .before .before .before .if2 .left), ← c .before .before .summary .ensures, ne-eqb _ _ (c .before .if3 .taken), ← c .refused3 .ensures)
 
 reported-requires : tie.Need-reported-requires
 reported-requires c κs = search needs
@@ -46,7 +46,7 @@ returns-4 : tie.Need-returns-4
 unfolding updateBandwidthEstimate
 returns-4 c =
     let b = c .before .before .before .before in
-    rw (← b .before .before .columns-refusal .ensures, eq-eqb _ _ (b .before .if1 .left), ← b .rate-refusal .ensures, eq-eqb _ _ (c .before .before .before .if2 .left), ← c .before .before .summary .ensures .0, eq-eqb _ _ (c .before .if3 .left), ← c .reported .ensures)
+    rw (← b .before .before .columns-refusal .ensures, eq-eqb _ _ (b .before .if1 .left), ← b .rate-refusal .ensures, eq-eqb _ _ (c .before .before .before .if2 .left), ← c .before .before .summary .ensures, eq-eqb _ _ (c .before .if3 .left), ← c .reported .ensures)
 
 pub update-bandwidth-estimate-spec : {M : Type 1} → statement M
 update-bandwidth-estimate-spec =
