@@ -8,7 +8,7 @@ use lib.Seq.{length-take-le}
 use Rattle.call_list.specs.Feed.{rowWidth, blank, runs, startOf}
 use Rattle.call_list.specs.Pieces.{At}
 use Rattle.call_list.proofs.Laying.{length-text}
-use Rattle.call_list.proofs.Feeding.{Kept, kept-line, row-fits, one-line, no-line, line-more, line-within, line-run, go-on, all-read}
+use Rattle.call_list.proofs.Feeding.{KeptLine, kept-line, row-fits, one-line, no-line, line-more, line-within, line-run, go-on, all-read}
 use Rattle.call_list.proofs.feed_all.Statement.{statement}
 use Rattle.call_list.proofs.feed_all.Tie as tie
 
@@ -48,7 +48,7 @@ read-on-requires c κs = (c .before .loop .inv .short, c .before .loop .inv .rea
 
 -- ---- the line that ended
 
-kept : (c : tie.Then1 Inv-loop μ-loop) → Kept (c .before .before .read-on .result .line) (c .before .before .read-on .result .len)
+kept : (c : tie.Then1 Inv-loop μ-loop) → KeptLine (c .before .before .read-on .result .line) (c .before .before .read-on .result .len)
 kept c =
     let h = head (c .before) in
     kept-line _ _ _ _ _ _ _ _ _ _ _ _ (h .before .loop .inv) (h .loop-test .taken) (begin h .pre .1) _ (c .before .before .read-on .ensures)

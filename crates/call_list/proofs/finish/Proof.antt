@@ -66,9 +66,13 @@ same-length c = search needs
 returns-4 : tie.Need-returns-4
 unfolding rowOf
 returns-4 c =
-    let a = c .before .before .before .before .before .before .before .before .before .before .before .before .before .before .before .before .before .before .before .before .args in
-    let r : 1 ≤ length (a .out .now) / rowWidth = omega (arith, c .before .before .before .before .before .before .before .before .before .before .before .before .before .before .before .before .if2 .left) in
-    line-finished (a .state) (a .times .now) (a .sizes .now) (a .flags .now) (a .out .now) (c .before .before .before .before .before .before .before .before .before .answer-line .result) _ _ _ _ (room-yes (a .state .len) 1 (length (a .out .now)) (c .before .before .before .before .before .before .before .before .before .before .before .before .before .before .before .before .before .if1 .left) r) (c .before .before .before .before .before .before .before .before .before .before .before .before .before .before .before .if3 .left) (c .before .before .before .before .before .before .before .before .before .answer-line .ensures) (rw (← c .before .before .before .before .before .before .text .ensures) (c .before .before .before .put-row .ensures))
+    let answered = c .before .before .before .before .before .before .before .before .before in
+    let tested = answered .before .before .before .before .before .before in
+    let a = tested .before .before .before .before .before .args in
+    let r : 1 ≤ length (a .out .now) / rowWidth = omega (arith, tested .before .if2 .left) in
+    line-finished (a .state) (a .times .now) (a .sizes .now) (a .flags .now) (a .out .now) (answered .answer-line .result) _ _ _ _
+    (room-yes (a .state .len) 1 (length (a .out .now)) (tested .before .before .if1 .left) r) (tested .if3 .left) (answered .answer-line .ensures)
+    (rw (← c .before .before .before .before .before .before .text .ensures) (c .before .before .before .put-row .ensures))
 
 pub finish-spec : {M : Type 1} → statement M
 finish-spec =
