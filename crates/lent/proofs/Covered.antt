@@ -28,7 +28,8 @@ step-covered calls call =
     }
 
 -- `update_lent`, by its contract
-pub lent-covered : (calls : List Call) (times sizes flags : List ℕ) (delay : ℕ) → Covered calls (report times sizes flags delay) (updateBandwidthEstimate (left calls) times sizes flags (rateOf delay))
+pub lent-covered : (calls : List Call) (times sizes flags : List ℕ) (delay : ℕ)
+    → Covered calls (report times sizes flags delay) (updateBandwidthEstimate (left calls) times sizes flags (rateOf delay))
 unfolding step
 lent-covered calls times sizes flags delay = step-covered calls (report times sizes flags delay)
 

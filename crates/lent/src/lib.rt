@@ -18,8 +18,11 @@ pub fn update_lent(
     flags: &[u8],
     delay_based_estimated: Bitrate,
 ) -> u8
-    ensures { λ r. ⌜ (r ≡ updateBandwidthEstimate (now (controller .entry)) (now (times .entry)) (now (sizes .entry)) (now (flags .entry)) «delay_based_estimated» .refusal)
-        × (now (controller .exit) ≡ updateBandwidthEstimate (now (controller .entry)) (now (times .entry)) (now (sizes .entry)) (now (flags .entry)) «delay_based_estimated» .controller) ⌝ }
+    ensures { λ r. ⌜ (r
+        ≡ updateBandwidthEstimate (now (controller .entry)) (now (times .entry)) (now (sizes .entry)) (now (flags .entry)) «delay_based_estimated» .refusal)
+        × (now (controller .exit)
+        ≡ updateBandwidthEstimate (now (controller .entry)) (now (times .entry)) (now (sizes .entry)) (now (flags .entry)) «delay_based_estimated» .controller)
+        ⌝ }
 {
     let answer = (*controller).update_bandwidth_estimate(
         times,

@@ -21,7 +21,8 @@ use contract.Monad.{Fun, fact}
 use contract.Running.{givenOf, tables, tablesOf}
 use types.Kit.{Given, ‵, raw, _⊛_, mean, some, later, ⋆, _$_, _∵_, !, qed, by, move, keep, use0, use1, use2, split, join, pick, rewrite, fsplit, fjoin}
 use types.Kit.{fpick, fpack, suffices, frame, await, done}
-use types.Run.{look, init, forget, stop, from, load, lit, addr, of-opd, and-then, no-more, assigns, land, returns, enter, alloc1, alloc0, params1, pass1, pass0, free1, free0}
+use types.Run.{look, init, forget, stop, from, load, lit, addr, of-opd, and-then, no-more, assigns, land, returns, enter, alloc1, alloc0, params1}
+use types.Run.{pass1, pass0, free1, free0}
 use types.Part.{agg}
 use types.Tokens.{lft-new, lft-end, lent-back}
 use types.Share.{arr-parts}
@@ -43,14 +44,14 @@ use denote.Triple.Clauses.{ensured, lasts}
 use denote.Triple.Entry.{onEntry}
 use denote.Triple.Spec.{Meets, tripleOf}
 use denote.Triple.Table.{entered, cited}
-use denote.Triple.Walked.{says, Stays, stay-none, walkOf, AllGo, goes-none, Walks, ends-at, walked, walk-meets}
+use denote.Triple.Walked.{says, Stays, stay-none, walkOf, AllGo, goes-none, ends-at, walked, walk-meets}
 use denote.Exit.{yes}
 use Rattle.lent.specs.Records.{updateRecords}
 use Rattle.bandwidth.specs.declared.Bitrate.{Bitrate}
 use Rattle.packets.specs.declared.PacketResult.{PacketResult}
 use Rattle.loss_controller.specs.declared.LossController.{LossController}
 use Rattle.loss_controller.specs.declared.ControllerAnswer.{ControllerAnswer}
-use Rattle.lent.proofs.Thin.{vals, val, vals-b, val-b, vals-p, typed}
+use Rattle.lent.proofs.Thin.{gives, vals, val, vals-b, val-b, vals-p, typed}
 use Rattle.bandwidth.proofs.Bitrate as B
 use Rattle.bandwidth.proofs.Bitrate.Laws as B′
 use Rattle.packets.proofs.PacketResult as P
@@ -95,21 +96,27 @@ module _ {M : Type 1} (𝓤 : URA M) (H : Heap 𝓤) (A : Atoms 𝓤) (W : Given
   records-made : ent 𝓤 (emp 𝓤) (sem 𝓤 H A (Records .own ys (vals-r ys)))
   records-made = array-makes 𝓤 H A W P.the-row (LL.makes P.the-type P′.the-plain 𝓤 H A) 3 ys (vals-r ys) is-ys
 
-  lay-out : ent 𝓤 (sem 𝓤 H A (fat fullShare (tyArray P′.mir 3) l 0 (only (vals-r ys)))) (sem 𝓤 H A (arr-parts (shares P.the-row) (length ys) .part fullShare ys l 0))
+  lay-out : ent 𝓤 (sem 𝓤 H A (fat fullShare (tyArray P′.mir 3) l 0 (only (vals-r ys))))
+      (sem 𝓤 H A (arr-parts (shares P.the-row) (length ys) .part fullShare ys l 0))
   unfolding partOf
   lay-out =
-      subst (λ (n : ℕ). ent 𝓤 (sem 𝓤 H A (fat fullShare (tyArray P′.mir 3) l 0 (only (vals-r ys)))) (sem 𝓤 H A (arr-parts (shares P.the-row) n .part fullShare ys l 0))) (sym len)
-      (qed W (‵ (fat fullShare (tyArray P′.mir 3) l 0 (only (vals-r ys))) ∷ []) ∵ use1 W (‵ (cellAt fullShare (Records .mir) (vals-r ys) l 0)) (W .laws .at-raw fullShare (tyArray P′.mir 3) l 0 (only (vals-r ys))) $
+      subst (λ (n : ℕ). ent 𝓤 (sem 𝓤 H A (fat fullShare (tyArray P′.mir 3) l 0 (only (vals-r ys))))
+      (sem 𝓤 H A (arr-parts (shares P.the-row) n .part fullShare ys l 0))) (sym len)
+      (qed W (‵ (fat fullShare (tyArray P′.mir 3) l 0 (only (vals-r ys))) ∷ []) ∵
+      use1 W (‵ (cellAt fullShare (Records .mir) (vals-r ys) l 0)) (W .laws .at-raw fullShare (tyArray P′.mir 3) l 0 (only (vals-r ys))) $
       use0 W (‵ (Records .own ys (vals-r ys))) records-made $ move ! (1 ∷ 0 ∷ []) $ fjoin ! $
-      fpack ! (List Val) (λ us. fsep (cellAt fullShare (Records .mir) us l 0) (Records .own ys us)) (vals-r ys) $ by ! (array-apart 𝓤 H A W P.the-row fullShare tt 3 ys l 0))
+      fpack ! (List Val) (λ us. fsep (cellAt fullShare (Records .mir) us l 0) (Records .own ys us)) (vals-r ys) $
+      by ! (array-apart 𝓤 H A W P.the-row fullShare tt 3 ys l 0))
 
   as-room : (n : ℕ) → ent 𝓤 (sem 𝓤 H A (arr-parts (shares P.the-row) n .part fullShare ys l 0)) (sem 𝓤 H A (froom (tyArray P′.mir n) l 0))
   unfolding partOf
   as-room n =
       via 𝓤 (sem 𝓤 H A (partAt (Array P.the-row n) fullShare ys l 0)) (array-whole 𝓤 H A W P.the-row fullShare n ys l 0)
       (qed W (‵ (partAt (Array P.the-row n) fullShare ys l 0) ∷ []) ∵ fpick ! (λ vs. fsplit ! $
-      spelt ! (Array P.the-row n) (Is (Array P.the-row n)) (shows 𝓤 H A (Array P.the-row n)) vals-r (array-tells P.the-row vals-p (LL.tells P.the-type P′.the-laws) n) fullShare ys vs l 0 $
-      keep ! (0 ∷ []) $ use1 W (‵ (fat fullShare (tyArray P′.mir n) l 0 (only (vals-r ys)))) (W .laws .raw-at fullShare (tyArray P′.mir n) l 0 (only (vals-r ys))) $
+      spelt ! (Array P.the-row n) (Is (Array P.the-row n)) (shows 𝓤 H A (Array P.the-row n)) vals-r
+      (array-tells P.the-row vals-p (LL.tells P.the-type P′.the-laws) n) fullShare ys vs l 0 $
+      keep ! (0 ∷ []) $
+      use1 W (‵ (fat fullShare (tyArray P′.mir n) l 0 (only (vals-r ys)))) (W .laws .raw-at fullShare (tyArray P′.mir n) l 0 (only (vals-r ys))) $
       use1 W (‵ (froom (tyArray P′.mir n) l 0)) (W .laws .at-room (tyArray P′.mir n) l 0 (only (vals-r ys))) $ done !))
 
 module _ {M : Type 1} (𝓤 : URA M) (H : Heap 𝓤) (A : Atoms 𝓤) (W : Given 𝓤 H A) (at-mem : Memory → SProp 𝓤) (run : Routine → Fun 𝓤)
@@ -150,14 +157,18 @@ module _ {M : Type 1} (𝓤 : URA M) (H : Heap 𝓤) (A : Atoms 𝓤) (W : Given
     asked : ent 𝓤 (sep 𝓤 (mean 𝓤 H A (‵ (flft (ν ∷ []) fullShare) ⊛ ‵ ftrue)) (sem 𝓤 H A (owns Os xs vs₀))) (Callee 𝓤 H A at-mem run .pre to)
     asked = qed W ((‵ (flft (ν ∷ []) fullShare) ⊛ ‵ ftrue) ∷ ‵ (owns Os xs vs₀) ∷ []) ∵ join ! $ frame ! $ done !
 
-    said : (r : ControllerAnswer) → ent 𝓤 (ensured 𝓤 H A callee.ended (callee.clauses 𝓤 H A at-mem run) (ν ∷ [], tt) xs tt r) (fact 𝓤 (r ≡ found))
+    abbrev Ensured : ControllerAnswer → SProp 𝓤
+    Ensured r = ensured 𝓤 H A callee.ended (callee.clauses 𝓤 H A at-mem run) (ν ∷ [], tt) xs tt r
+
+    said : (r : ControllerAnswer) → ent 𝓤 (Ensured r) (fact 𝓤 (r ≡ found))
     said r = exE 𝓤 _ (λ ws. snd∗ 𝓤 (sem 𝓤 H A (lasts callee.ended (ν ∷ [], tt) xs ws)) (fact 𝓤 (r ≡ found)))
 
   module _ (was : Is T.the-row h (vals h)) (is-ys : Is Records ys (vals-r ys)) (rate : Is B.the-row delay (vals-b delay)) where
     exits : (r : ControllerAnswer) (v : Val) → r ≡ found → ent 𝓤 (⋆ 𝓤 H A (‵ (S.the-row .own r (v ∷ [])) ∷ [])) (Post v)
     exits r v e =
         qed W (‵ (S.the-row .own r (v ∷ [])) ∷ []) ∵
-        suffices ! _ (ends-at 𝓤 H A f.ended stayed (f.clauses 𝓤 H A at-mem run) W ((tt, tt, tt, x, at), tt) v r (tt, (tt, (tt, tt))) (tt, (tt, (tt, tt)))) $ says ! e $
+        suffices ! _ (ends-at 𝓤 H A f.ended stayed (f.clauses 𝓤 H A at-mem run) W ((tt, tt, tt, x, at), tt) v r (tt, (tt, (tt, tt)))
+        (tt, (tt, (tt, tt)))) $ says ! e $
         nothing ! $ owned ! B.the-row (Is B.the-row) ((LL.makes B.the-type B′.the-plain) 𝓤 H A) delay _ rate $ fjoin ! $
         use0 W (‵ (Records .own ys (vals-r ys))) (records-made 𝓤 H A W ys is-ys 0) $ fjoin ! $
         owned ! T.the-row (Is T.the-row) ((LL.makes T.the-type T′.the-plain) 𝓤 H A) h _ was $ fjoin ! $ nothing ! $ done !
@@ -166,7 +177,8 @@ module _ {M : Type 1} (𝓤 : URA M) (H : Heap 𝓤) (A : Atoms 𝓤) (W : Given
       walk : ent 𝓤 (onEntry 𝓤 H A f.signature tt tt x at) (WpFn 𝓤 H C Λ code.function (val h ∷ only (vals-r ys) ∷ val-b delay ∷ []) Post)
       walk =
           qed W (‵ ftrue ∷ ‵ (owns (T.the-row ∷ Records ∷ B.the-row ∷ []) x at) ∷ []) ∵ keep ! [] $ enter ! C Λ code.function _ _ $
-          alloc1 ! (λ l0. alloc1 ! (λ l1. alloc1 ! (λ l2. alloc1 ! (λ l3. alloc1 ! (λ l4. alloc1 ! (λ l5. alloc1 ! (λ l6. alloc0 ! $ params1 ! $
+          alloc1 ! (λ l0. alloc1 ! (λ l1. alloc1 ! (λ l2. alloc1 ! (λ l3. alloc1 ! (λ l4. alloc1 ! (λ l5.
+          alloc1 ! (λ l6. alloc0 ! $ params1 ! $
           pass1 ! (init ! 10 refl (typed W h was)) $ pass1 ! (init ! 8 refl (records-typed 𝓤 H A W ys is-ys 0 .0)) $
           pass1 ! (init ! 6 refl (LL.lawful B.the-type B′.the-laws 𝓤 H A W .typed delay _ rate .0)) $ pass0 ! $
           -- [0 _6; 2 _5; 4 _4; 6 _3; 8 _2; 10 _1; 12 _0]
@@ -178,17 +190,20 @@ module _ {M : Type 1} (𝓤 : URA M) (H : Heap 𝓤) (A : Atoms 𝓤) (W : Given
           (sym (len 𝓤 H A W ys is-ys 0)) refl $
           -- the records are lent for a lifetime ν of the call
           move ! (4 ∷ []) $ use1 W (‵ (Parts l4)) (lay-out 𝓤 H A W ys is-ys l4) $ lft-new ! tt (λ ν. move ! (1 ∷ []) $
-          use1 W (later (some (λ (γ : GName). ‵ (ShrSlice (named 0) (ν ∷ []) P.the-row .own (records l4 γ) (slice-vals (records l4 γ))) ⊛ ‵ (flent (ν ∷ []) (Parts l4)))))
-          (lends-shr-slice 𝓤 H A W P.the-row (named 0) (ν ∷ []) fullShare ys l4 0 (room (length ys) (len 𝓤 H A W ys is-ys 0))) $ await ! tt $ pick ! (λ γ. split ! $
+          use1 W
+          (later
+          (some (λ (γ : GName). ‵ (ShrSlice (named 0) (ν ∷ []) P.the-row .own (records l4 γ) (slice-vals (records l4 γ))) ⊛ ‵ (flent (ν ∷ []) (Parts l4)))))
+          (lends-shr-slice 𝓤 H A W P.the-row (named 0) (ν ∷ []) fullShare ys l4 0 (room (length ys) (len 𝓤 H A W ys is-ys 0))) $ await ! tt $
+          pick ! (λ γ. split ! $
           -- [0 the slice; 1 what is lent; 2 its token; 3 _6; 5 _5; 7 that _4 dies; 8 _3; 10 _2; 12 _1; 14 _0]
           nothing ! $ owned ! B.the-row (Is B.the-row) ((LL.makes B.the-type B′.the-plain) 𝓤 H A) delay _ rate $ fjoin ! $ move ! (1 ∷ 0 ∷ []) $ fjoin ! $
           owned ! T.the-row (Is T.the-row) ((LL.makes T.the-type T′.the-plain) 𝓤 H A) h _ was $ fjoin ! $
           nothing ! $ move ! (3 ∷ 0 ∷ []) $ join ! $ use2 W (raw (Callee 𝓤 H A at-mem run .pre (to ν l4 γ))) (asked ν l4 γ) $
           -- [0 what is asked; 1 what is lent; 2 _6; 4 _5; 6 that _4 dies; 7 _3; 9 _2; 11 _1; 13 _0]
           calls-at ! fm (Callee 𝓤 H A at-mem run) known (to ν l4 γ)
-          (and-then ! (load ! (from ! (stop !)) (look ! 11 refl)) (and-then ! (load ! (from ! (stop !)) (look ! 2 refl)) (and-then ! (load ! (from ! (stop !)) (look ! 7 refl)) (no-more !)))) (λ v.
-          use1 W (later (some (λ (r : ControllerAnswer). ((‵ (flft (ν ∷ []) fullShare) ⊛ ‵ ftrue) ⊛ ‵ (S.the-row .own r (v ∷ []))) ⊛ raw (ensured 𝓤 H A callee.ended (callee.clauses 𝓤 H A at-mem run) (ν ∷ [], tt) (xs ν l4 γ) tt r))))
-          (id⊢ 𝓤 _) $ await ! tt $ pick ! (λ r.
+          (and-then ! (load ! (from ! (stop !)) (look ! 11 refl))
+          (and-then ! (load ! (from ! (stop !)) (look ! 2 refl)) (and-then ! (load ! (from ! (stop !)) (look ! 7 refl)) (no-more !)))) (λ v.
+          use1 W (gives (‵ (flft (ν ∷ []) fullShare) ⊛ ‵ ftrue) S.the-row (Ensured ν l4 γ) v) (id⊢ 𝓤 _) $ await ! tt $ pick ! (λ r.
           split ! $ move ! (1 ∷ []) $ use1 W (raw (fact 𝓤 (r ≡ found))) (said ν l4 γ r) $ heard ! (r ≡ found) (λ e. split ! $ move ! (1 ∷ []) $
           peeks ! S.the-row (Is S.the-row) (shows 𝓤 H A S.the-row) r (v ∷ []) (λ is. move ! (1 ∷ []) $
           -- [0 the token; 1 what the answer owns; 2 what is lent; 3 _6; 5 _5; 7 that _4 dies; 8 _3; 10 _2; 12 _1; 14 _0]
@@ -196,7 +211,8 @@ module _ {M : Type 1} (𝓤 : URA M) (H : Heap 𝓤) (A : Atoms 𝓤) (W : Given
           -- ν is ended, and the array is room
           split ! $ lft-end ! tt $ move ! (0 ∷ 3 ∷ []) $ lent-back ! tt $
           use1 W (‵ (froom (tyArray P′.mir 3) l4 0))
-          (subst (λ (n : ℕ). ent 𝓤 (sem 𝓤 H A (Parts l4)) (sem 𝓤 H A (froom (tyArray P′.mir n) l4 0))) (len 𝓤 H A W ys is-ys 0) (as-room 𝓤 H A W ys is-ys l4 (length ys))) $
+          (subst (λ (n : ℕ). ent 𝓤 (sem 𝓤 H A (Parts l4)) (sem 𝓤 H A (froom (tyArray P′.mir n) l4 0))) (len 𝓤 H A W ys is-ys 0)
+          (as-room 𝓤 H A W ys is-ys l4 (length ys))) $
           -- [0 _4; 1 true; 2 what the answer owns; 3 _6; 5 _5; 7 that _4 dies; 8 _3; 10 _2; 12 _1; 14 _0]
           returns ! (look ! 14 refl) $ forget ! 3 refl $ forget ! 5 refl $ forget ! 8 refl $ forget ! 10 refl $ forget ! 12 refl $ forget ! 14 refl $
           move ! (14 ∷ 15 ∷ []) $ free1 ! $ move ! (12 ∷ 13 ∷ []) $ free1 ! $ move ! (10 ∷ 11 ∷ []) $ free1 ! $ move ! (8 ∷ 9 ∷ []) $ free1 ! $
@@ -204,23 +220,26 @@ module _ {M : Type 1} (𝓤 : URA M) (H : Heap 𝓤) (A : Atoms 𝓤) (W : Given
           keep ! (1 ∷ []) $ by ! (exits r v e))))))))))))))
 
 module _ {M : Type 1} (𝓤 : URA M) (H : Heap 𝓤) (A : Atoms 𝓤) (W : Given 𝓤 H A) (at-mem : Memory → SProp 𝓤) (run : Routine → Fun 𝓤) where
-  of-records-walks : (C : Calls 𝓤 H) (Λ : Loops 𝓤 H) → FmC 𝓤 H (W .laws) C → Triple 𝓤 (C #callee) (Callee 𝓤 H A at-mem run) → Walks 𝓤 H A f.ended stayed (WpFn 𝓤 H C Λ code.function) (f.clauses 𝓤 H A at-mem run)
-  of-records-walks C Λ fm known = walked 𝓤 H A f.ended stayed (f.clauses 𝓤 H A at-mem run) (WpFn 𝓤 H C Λ code.function) (λ κs. (vals, (vals-r, (vals-b, tt))))
-      (λ κs. (LL.tells T.the-type T′.the-laws, (array-tells P.the-row vals-p (LL.tells P.the-type P′.the-laws) 3, (LL.tells B.the-type B′.the-laws, tt))))
-      (λ κs qs bounds a _ are. via 𝓤 _ (fst∗ 𝓤 _ (emp 𝓤)) (walk 𝓤 H A W at-mem run (a .0) (a .1 .0) (a .1 .1 .0) (are .0) (are .1 .0) (are .1 .1 .0) C Λ fm known))
-
   goes : AllGo 𝓤 H A W 0 (f.signature .params) (f.ended .kept) stayed
-  goes = (goes-none 𝓤 H A W 0 (λ _. T.the-row) yes (λ κs x f. refl), (goes-none 𝓤 H A W 0 (λ _. Records) yes (λ κs x f. refl), (goes-none 𝓤 H A W 0 (λ _. B.the-row) yes (λ κs x f. refl), tt)))
+  goes = (
+    goes-none 𝓤 H A W 0 (λ _. T.the-row) yes (λ κs x f. refl),
+    (goes-none 𝓤 H A W 0 (λ _. Records) yes (λ κs x f. refl), (goes-none 𝓤 H A W 0 (λ _. B.the-row) yes (λ κs x f. refl), tt)),
+  )
 
-of-records-meets : {M : Type 1} (𝓤 : URA M) (H : Heap 𝓤) (A : Atoms 𝓤) (W : Given 𝓤 H A) (at-mem : Memory → SProp 𝓤) (run : Routine → Fun 𝓤) (𝓣 : Tables 𝓤 H) → Triple 𝓤 (𝓣 .C #callee) (Callee 𝓤 H A at-mem run)
-    → Meets 𝓤 H A f.signature (WpFn 𝓤 H (𝓣 .C) (𝓣 .Λ) code.function) (f.spec 𝓤 H A at-mem run)
-of-records-meets 𝓤 H A W at-mem run 𝓣 known = walk-meets 𝓤 H A f.ended stayed W (goes 𝓤 H A W at-mem run) (f.clauses 𝓤 H A at-mem run) (WpFn 𝓤 H (𝓣 .C) (𝓣 .Λ) code.function) (WpFn-mono 𝓤 H (W .laws) 𝓣 code.function)
-    (of-records-walks 𝓤 H A W at-mem run (𝓣 .C) (𝓣 .Λ) (fmOf 𝓤 H (W .laws) 𝓣) known)
+  meets : (𝓣 : Tables 𝓤 H) → Triple 𝓤 (𝓣 .C #callee) (Callee 𝓤 H A at-mem run)
+      → Meets 𝓤 H A f.signature (WpFn 𝓤 H (𝓣 .C) (𝓣 .Λ) code.function) (f.spec 𝓤 H A at-mem run)
+  meets 𝓣 known =
+      walk-meets 𝓤 H A f.ended stayed W goes (f.clauses 𝓤 H A at-mem run) (WpFn 𝓤 H (𝓣 .C) (𝓣 .Λ) code.function)
+      (WpFn-mono 𝓤 H (W .laws) 𝓣 code.function)
+      (walked 𝓤 H A f.ended stayed (f.clauses 𝓤 H A at-mem run) (WpFn 𝓤 H (𝓣 .C) (𝓣 .Λ) code.function) (λ κs. (vals, (vals-r, (vals-b, tt))))
+      (λ κs. (LL.tells T.the-type T′.the-laws, (array-tells P.the-row vals-p (LL.tells P.the-type P′.the-laws) 3, (LL.tells B.the-type B′.the-laws, tt))))
+      (λ κs qs bounds a _ are. via 𝓤 _ (fst∗ 𝓤 _ (emp 𝓤))
+      (walk 𝓤 H A W at-mem run (a .0) (a .1 .0) (a .1 .1 .0) (are .0) (are .1 .0) (are .1 .1 .0) (𝓣 .C) (𝓣 .Λ) (fmOf 𝓤 H (W .laws) 𝓣) known)))
 
 pub of-records-spec : {M : Type 1} → stated.statement M
 unfolding code.routine tablesOf
 of-records-spec 𝓤 H 𝓜 𝓖 𝓡 =
     entered 𝓤 H (tripleOf 𝓤 H (𝓖 .A) f.signature (f.spec 𝓤 H (𝓖 .A) (𝓜 .mem) (𝓡 .run)))
     (tables 𝓤 H 𝓜 𝓡 code.env .C) (tables 𝓤 H 𝓜 𝓡 code.env .Λ) #self code.function (code.unfolded 𝓤 H 𝓜 𝓡)
-    (of-records-meets 𝓤 H (𝓖 .A) (givenOf 𝓤 H 𝓜 𝓖) (𝓜 .mem) (𝓡 .run) (tablesOf 𝓤 H 𝓜 (tables 𝓤 H 𝓜 𝓡 code.env))
+    (meets 𝓤 H (𝓖 .A) (givenOf 𝓤 H 𝓜 𝓖) (𝓜 .mem) (𝓡 .run) (tablesOf 𝓤 H 𝓜 (tables 𝓤 H 𝓜 𝓡 code.env))
     (cited 𝓤 H (Callee 𝓤 H (𝓖 .A) (𝓜 .mem) (𝓡 .run)) 𝓜 𝓡 code.env #callee callee-def.routine code.calls-lent·update-records (callee-thm.met 𝓤 H 𝓜 𝓖 𝓡)))
