@@ -283,7 +283,8 @@ module _ (p : State) (ts₀ ss₀ fs₀ o₀ : List ℕ) where
 
   pub line-finished :
       (a : LineAnswer) (ts ss fs o : List ℕ) → roomy (p .len) 1 (length o₀) ≡ true → (p .len ≡ 0 → ⊥)
-      → After a ts ss fs (p .session .reading) (lineOf (take (p .len) (p .line))) (afterOf (machineOf (p .session) ts₀ ss₀ fs₀) (lineOf (take (p .len) (p .line))))
+      → After a ts ss fs (p .session .reading) (lineOf (take (p .len) (p .line)))
+      (afterOf (machineOf (p .session) ts₀ ss₀ fs₀) (lineOf (take (p .len) (p .line))))
       → o ≡ laid 0 (rowOf (a .answer .refusal) (a .answer .reading)) o₀
       → Finishes (record { taken = true; state = record { line = blank; len = 0; session = a .session }; written = rowWidth }) ts ss fs o p ts₀ ss₀ fs₀ o₀
   line-finished a ts ss fs o e n t q =

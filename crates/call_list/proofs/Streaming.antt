@@ -19,7 +19,8 @@ use Rattle.call_list.specs.declared.Fed.{Fed}
 use Rattle.call_list.specs.Answer.{Machine, Answered, calls, lineControlled, lineQueued, afterOf, readingOf, readAfter, rowOf}
 use Rattle.call_list.specs.Feed.{Run, kept, rowWidth, pushed, told, ended, step, runs, finished, startOf, fresh, FedBy, roomy}
 use Rattle.call_list.proofs.Laying.{length-row}
-use Rattle.call_list.specs.Whole.{lastLine, linesFrom, linesOf, answeredLine, answerRow, answersTo, joined, none, freshMachine, answers, Writes, last, more, Program}
+use Rattle.call_list.specs.Whole.{lastLine, linesFrom, linesOf, answeredLine, answerRow, answersTo, joined, none, freshMachine, answers, Writes}
+use Rattle.call_list.specs.Whole.{last, more, Program}
 
 -- ---- a line's first bytes
 
@@ -44,7 +45,10 @@ reading-kept m l r e = pick (calls l)
     new : Bool → Answered
     new t =
         cond t
-        (record { refusal = lineControlled (m .controller) (m .queue) l .refusal; machine = record { controller = lineControlled (m .controller) (m .queue) l .controller; queue = lineQueued (m .queue) l .queue } })
+        (record {
+          refusal = lineControlled (m .controller) (m .queue) l .refusal;
+          machine = record { controller = lineControlled (m .controller) (m .queue) l .controller; queue = lineQueued (m .queue) l .queue };
+        })
         (record { refusal = lineQueued (m .queue) l .refusal; machine = record { controller = m .controller; queue = lineQueued (m .queue) l .queue } })
 
     pick : (t : Bool) → cond t (readingOf (new t .machine .controller)) r ≡ readingOf (new t .machine .controller)
