@@ -42,7 +42,8 @@ fn answer_all(
     chunk: &mut [u8],
     out: &mut [u8],
 )
-    requires { ⌜ (now times ≡ none) × (now sizes ≡ none) × (now flags ≡ none) × (length (now chunk) ≤ length (now out) / rowWidth) × (rowWidth ≤ length (now out)) ⌝ }
+    requires { ⌜ (now times ≡ none) × (now sizes ≡ none) × (now flags ≡ none) × (length (now chunk) ≤ length (now out) / rowWidth)
+        × (rowWidth ≤ length (now out)) ⌝ }
 {
     let mut state = call_list::start();
     let mut left = u64::MAX;

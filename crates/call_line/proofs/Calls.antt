@@ -15,7 +15,8 @@ use Rattle.call_line.specs.declared.Call.{Call}
 use Rattle.call_line.specs.declared.Call.the-variants.{AlrOn, AlrOff, CapacityIs, CapacityNone, Report, Read}
 use Rattle.call_line.specs.declared.Line.the-variants.{Taken, Refused, ReportRefused}
 use Rattle.call_line.specs.Column.{row}
-use Rattle.call_line.specs.Line.{widths, fieldsOf, inTable, rateCode, unlessRefused, byFlag, reportOf, alrOf, capacityOf, packetOf, callOf, valuesOf, checked, lineOf}
+use Rattle.call_line.specs.Line.{widths, fieldsOf, inTable, rateCode, unlessRefused, byFlag, reportOf, alrOf, capacityOf, packetOf, callOf}
+use Rattle.call_line.specs.Line.{valuesOf, checked, lineOf}
 use Rattle.call_line.proofs.RoundTrip.{Fits, line-written, line-read}
 
 two-zeros : (b c : ℕ) → eqb b 0 && eqb c 0 ≡ true → (b ≡ 0) × (c ≡ 0)

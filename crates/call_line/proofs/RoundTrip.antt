@@ -13,7 +13,8 @@ use lib.ListN.{length, getD, replicate, take, drop, length-append, length-replic
 use lib.Seq.{take-at, drop-at, drop-drop, length-take-le}
 use Rattle.call_line.specs.declared.Number.{Number}
 use Rattle.call_line.specs.declared.Number.the-variants.{Value, Wrong}
-use Rattle.call_line.specs.Column.{asciiNine, asciiSpace, asciiZero, isDigit, more, afterZero, digitsOf, leadingSpaces, columnOf, column, start, total, cut, row}
+use Rattle.call_line.specs.Column.{asciiNine, asciiSpace, asciiZero, isDigit, more, afterZero, digitsOf, leadingSpaces, columnOf, column, start}
+use Rattle.call_line.specs.Column.{total, cut, row}
 use Rattle.call_line.specs.declared.Fields.the-variants.{Read, Unreadable}
 use Rattle.call_line.specs.Line.{widths, four, fieldsOf}
 use Rattle.call_line.proofs.Reading.{digit-bounds}
@@ -142,7 +143,8 @@ whole-is (b ∷ s) k n e = blank (whole-is s (suc k) n) (eqb b asciiSpace) refl
         ∙ ap (λ (x : ℕ). column x n) (omega arith)
 
     blank :
-        (columnOf s ≡ Value n → replicate (suc k) asciiSpace ++ s ≡ column (suc k + length s) n) → (t : Bool) → eqb b asciiSpace ≡ t → replicate k asciiSpace ++ (b ∷ s) ≡ column (k + suc (length s)) n
+        (columnOf s ≡ Value n → replicate (suc k) asciiSpace ++ s ≡ column (suc k + length s) n) → (t : Bool) → eqb b asciiSpace ≡ t
+        → replicate k asciiSpace ++ (b ∷ s) ≡ column (k + suc (length s)) n
     blank ih true q =
         rw (eqb-true b asciiSpace q)
         (sym (spaces-move k s) ∙ ih (simp q at e) ∙ ap (λ (x : ℕ). column x n) (omega arith))
@@ -195,7 +197,11 @@ row-of-cuts [] ns [] e l h = refl
 row-of-cuts [] ns (b ∷ s) e l h = absurd (omega arith)
 row-of-cuts (w ∷ ws) [] s e l h = absurd (omega arith)
 row-of-cuts (w ∷ ws) (n ∷ ns) s e l h =
-    rw (h 0 (omega arith), row-of-cuts ws ns (drop w s) (omega arith) (omega (arith, length-drop w s)) (λ j u. h (suc j) (omega arith) ∙ ap (take (getD ws j 0)) (sym (drop-drop (start ws j) w s))))
+    rw (
+      h 0 (omega arith),
+      row-of-cuts ws ns (drop w s) (omega arith) (omega (arith, length-drop w s))
+          (λ j u. h (suc j) (omega arith) ∙ ap (take (getD ws j 0)) (sym (drop-drop (start ws j) w s))),
+    )
     (take-append-drop w s)
 
 -- ---- a line
@@ -244,12 +250,14 @@ line-read s k a b c e = pick (eqb (length s) (total widths)) refl
     pick : (t : Bool) → eqb (length s) (total widths) ≡ t → row widths (k ∷ a ∷ b ∷ c ∷ []) ≡ s
     pick true q =
         let l : length s ≡ total widths = eqb-true (length s) (total widths) q in
-        let f = were-four (columnOf (cut widths 0 s)) (columnOf (cut widths 1 s)) (columnOf (cut widths 2 s)) (columnOf (cut widths 3 s)) k a b c (simp q at e) in
+        let f = were-four (columnOf (cut widths 0 s)) (columnOf (cut widths 1 s)) (columnOf (cut widths 2 s)) (columnOf (cut widths 3 s)) k a b c
+        (simp q at e) in
         row-of-cuts widths (k ∷ a ∷ b ∷ c ∷ []) s refl l (each l f)
       where
         each :
             length s ≡ total widths
-            → (columnOf (cut widths 0 s) ≡ Value k) × (columnOf (cut widths 1 s) ≡ Value a) × (columnOf (cut widths 2 s) ≡ Value b) × (columnOf (cut widths 3 s) ≡ Value c)
+            → (columnOf (cut widths 0 s) ≡ Value k) × (columnOf (cut widths 1 s) ≡ Value a) × (columnOf (cut widths 2 s) ≡ Value b)
+            × (columnOf (cut widths 3 s) ≡ Value c)
             → (j : ℕ) → j < 4 → column (getD widths j 0) (getD (k ∷ a ∷ b ∷ c ∷ []) j 0) ≡ cut widths j s
         each l f zero h = field l 0 k h (f .0)
         each l f (suc zero) h = field l 1 a h (f .1)

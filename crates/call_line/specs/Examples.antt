@@ -85,7 +85,8 @@ out-of-shape :
     ∷ ((32 ∷ 55 ∷ []) ++ ((replicate 19 32 ++ (48 ∷ [])) ++ ((replicate 19 32 ++ (48 ∷ [])) ++ replicate 6 32)))
     ∷ []) ≡
     replicate 5 (Refused 1)
-unfolding line row column lineOf checked fieldsOf four columnOf leadingSpaces digitsOf isDigit more afterZero inTable callOf unlessRefused rateRefusal ofBits toBits lt signBit
+unfolding line row column lineOf checked fieldsOf four columnOf leadingSpaces digitsOf isDigit more afterZero inTable callOf unlessRefused
+    rateRefusal ofBits toBits lt signBit
 out-of-shape = refl
 
 -- kinds 0 and 8; a B or a C where the table says 0; a read with an A; a packet of 65,536 bytes
@@ -95,7 +96,8 @@ out-of-table :
 unfolding line row column lineOf checked fieldsOf four columnOf leadingSpaces digitsOf isDigit more afterZero inTable callOf
 out-of-table = refl
 
--- DECISIONS 1, 4 and 18. ALR: on at 0 ns, at 4 × 10^18 ns and a ns later; off, and off with a start; the flag 2, also with a start that is too late; the flag 2 and a C
+-- DECISIONS 1, 4 and 18. ALR: on at 0 ns, at 4 × 10^18 ns and a ns later; off, and off with a start; the flag 2, also with a start that is too late;
+-- the flag 2 and a C
 alr :
     map lineOf
     (line 3 0 1 0
@@ -108,7 +110,8 @@ alr :
     ∷ line 3 1 2 1
     ∷ []) ≡
     Taken (AlrOn 0) ∷ Taken (AlrOn (4 * 10 ^ 18)) ∷ Refused 3 ∷ Taken AlrOff ∷ Refused 1 ∷ Refused 8 ∷ Refused 8 ∷ Refused 1 ∷ []
-unfolding line row column lineOf checked fieldsOf four columnOf leadingSpaces digitsOf isDigit more afterZero inTable callOf unlessRefused byFlag alrOf timeRefusal
+unfolding line row column lineOf checked fieldsOf four columnOf leadingSpaces digitsOf isDigit more afterZero inTable callOf unlessRefused byFlag
+    alrOf timeRefusal
 alr = refl
 
 -- the same of the capacity: +0.0, 10^15 and the next float, infinity; none, and none with a rate; the flag 2 and -0.0; the flag 2 and a C
@@ -123,8 +126,10 @@ capacity :
     ∷ line 4 (2 ^ 63) 2 0
     ∷ line 4 0 2 1
     ∷ []) ≡
-    Taken (CapacityIs 0) ∷ Taken (CapacityIs 0x430C6BF526340000) ∷ Refused 2 ∷ Taken (CapacityIs 0x7FF0000000000000) ∷ Taken CapacityNone ∷ Refused 1 ∷ Refused 8 ∷ Refused 1 ∷ []
-unfolding line row column lineOf checked fieldsOf four columnOf leadingSpaces digitsOf isDigit more afterZero inTable callOf unlessRefused byFlag capacityOf rateRefusal ofBits toBits lt signBit
+    Taken (CapacityIs 0) ∷ Taken (CapacityIs 0x430C6BF526340000) ∷ Refused 2 ∷ Taken (CapacityIs 0x7FF0000000000000) ∷ Taken CapacityNone ∷ Refused 1
+    ∷ Refused 8 ∷ Refused 1 ∷ []
+unfolding line row column lineOf checked fieldsOf four columnOf leadingSpaces digitsOf isDigit more afterZero inTable callOf unlessRefused byFlag
+    capacityOf rateRefusal ofBits toBits lt signBit
 capacity = refl
 
 -- packets: the largest; too late, also with the flag 2; the flag 2, and the largest flag
@@ -137,12 +142,14 @@ packets :
     ∷ line 5 0 (2 ^ 64 - 1) 0
     ∷ []) ≡
     Taken (Packet (4 * 10 ^ 18) 1 65535) ∷ Refused 3 ∷ Refused 3 ∷ Refused 8 ∷ Refused 8 ∷ []
-unfolding line row column lineOf checked fieldsOf four columnOf leadingSpaces digitsOf isDigit more afterZero inTable callOf unlessRefused packetOf packetRefusal
+unfolding line row column lineOf checked fieldsOf four columnOf leadingSpaces digitsOf isDigit more afterZero inTable callOf unlessRefused
+    packetOf packetRefusal
 packets = refl
 
 -- rates: -0.0 is refused, a NaN is taken; a report that is refused with 2 empties the queue, and one with 1 does not
 rates :
     map lineOf (line 1 (2 ^ 63) 0 0 ∷ line 2 0xFFF8000000000001 0 0 ∷ line 6 0x7FF0000000000000 0 0 ∷ line 6 (2 ^ 63) 0 0 ∷ line 6 (2 ^ 63) 1 0 ∷ []) ≡
     Refused 2 ∷ Taken (Acknowledged 0xFFF8000000000001) ∷ Taken (Report 0x7FF0000000000000) ∷ ReportRefused 2 ∷ Refused 1 ∷ []
-unfolding line row column lineOf checked fieldsOf four columnOf leadingSpaces digitsOf isDigit more afterZero inTable callOf unlessRefused reportOf rateRefusal ofBits toBits lt signBit
+unfolding line row column lineOf checked fieldsOf four columnOf leadingSpaces digitsOf isDigit more afterZero inTable callOf unlessRefused
+    reportOf rateRefusal ofBits toBits lt signBit
 rates = refl

@@ -5,7 +5,8 @@ ghost use Prim.Native.Nat.{_-_, _≤_};
 ghost use lib.ListN.{length, drop};
 ghost use Rattle.packets.specs.Summary.{largestPacket};
 ghost use Rattle.call_line.specs.Column.{isDigit, more, leadingSpaces, digitsOf, column};
-ghost use Rattle.call_line.specs.Line.{alone, flagged, allowed, fieldsOf, inTable, rateCode, unlessRefused, alrOf, capacityOf, packetOf, reportOf, callOf, lineOf};
+ghost use Rattle.call_line.specs.Line.{alone, flagged, allowed, fieldsOf, inTable, rateCode, unlessRefused, alrOf, capacityOf, packetOf};
+ghost use Rattle.call_line.specs.Line.{reportOf, callOf, lineOf};
 use bandwidth::Bitrate;
 use packets::PacketSize;
 

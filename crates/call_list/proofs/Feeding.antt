@@ -43,25 +43,25 @@ data Outcome (r : Run) (i : ℕ) (s : List ℕ) (n : Next) : Type 0 where
   one : n .ended ≡ true → Ended r i s n → Outcome r i s n
 
 -- what is kept of the line
-pub record Kept (line : List ℕ) (len : ℕ) : Type 0 where
+pub record KeptLine (line : List ℕ) (len : ℕ) : Type 0 where
   pub short : len ≤ kept
   pub whole : length line ≡ kept
 
-pushed-kept : (r : Run) (b : ℕ) → Kept (r .line) (r .len) → Kept (pushed r b .line) (pushed r b .len)
+pushed-kept : (r : Run) (b : ℕ) → KeptLine (r .line) (r .len) → KeptLine (pushed r b .line) (pushed r b .len)
 pushed-kept r b h = pick (ltb (r .len) kept) refl
   where
-    pick : (t : Bool) → ltb (r .len) kept ≡ t → Kept (cond t (set (r .line) (r .len) b) (r .line)) (cond t (r .len + 1) (r .len))
+    pick : (t : Bool) → ltb (r .len) kept ≡ t → KeptLine (cond t (set (r .line) (r .len) b) (r .line)) (cond t (r .len + 1) (r .len))
     pick true e = let k : r .len < kept = ltb-true (r .len) kept e in record { short = omega arith; whole = simp length-set (h .whole) }
     pick false e = h
 
-next-kept : (s : List ℕ) (r : Run) (i : ℕ) → Kept (r .line) (r .len) → Kept (nextOf (r .line) (r .len) i s .line) (nextOf (r .line) (r .len) i s .len)
+next-kept : (s : List ℕ) (r : Run) (i : ℕ) → KeptLine (r .line) (r .len) → KeptLine (nextOf (r .line) (r .len) i s .line) (nextOf (r .line) (r .len) i s .len)
 unfolding nextOf
 next-kept [] r i h = h
 next-kept (b ∷ s) r i h = pick (eqb b 10) _ (next-kept s (pushed r b) (i + 1) (pushed-kept r b h))
   where
     pick :
-        (t : Bool) (n : Next) → Kept (n .line) (n .len)
-        → (let m : Next = cond t (record { line = r .line; len = r .len; read = i + 1; ended = true }) n in Kept (m .line) (m .len))
+        (t : Bool) (n : Next) → KeptLine (n .line) (n .len)
+        → (let m : Next = cond t (record { line = r .line; len = r .len; read = i + 1; ended = true }) n in KeptLine (m .line) (m .len))
     pick true n x = h
     pick false n x = x
 
@@ -90,7 +90,7 @@ outcome (b ∷ s) r i = pick (eqb b 10) refl (outcome s (pushed r b) (i + 1))
     pick false q o = over (nextOf (pushed r b .line) (pushed r b .len) (i + 1) s) o (run-on r b s q)
 
 module _ (s : List ℕ) (r : Run) (i : ℕ) (n : Next) (e : n ≡ nextOf (r .line) (r .len) i s) where
-  pub kept-on : Kept (r .line) (r .len) → Kept (n .line) (n .len)
+  pub kept-on : KeptLine (r .line) (r .len) → KeptLine (n .line) (n .len)
   kept-on h = rw e (next-kept s r i h)
 
   at : Outcome r i s n
@@ -177,7 +177,7 @@ module _
       left : length (drop i chunk) ≡ length chunk - i
       left = length-drop i chunk
 
-      pub kept-line : Kept (n .line) (n .len)
+      pub kept-line : KeptLine (n .line) (n .len)
       kept-line = kept-on (drop i chunk) now i n e (record { short = h .short; whole = h .whole })
 
       pub no-line : n .ended ≡ false → (i < n .read) × At chunk out₀ end ts ss fs out (n .line) (n .len) s w (n .read)
@@ -283,7 +283,8 @@ module _ (p : State) (ts₀ ss₀ fs₀ o₀ : List ℕ) where
 
   pub line-finished :
       (a : LineAnswer) (ts ss fs o : List ℕ) → roomy (p .len) 1 (length o₀) ≡ true → (p .len ≡ 0 → ⊥)
-      → After a ts ss fs (p .session .reading) (lineOf (take (p .len) (p .line))) (afterOf (machineOf (p .session) ts₀ ss₀ fs₀) (lineOf (take (p .len) (p .line))))
+      → After a ts ss fs (p .session .reading) (lineOf (take (p .len) (p .line)))
+      (afterOf (machineOf (p .session) ts₀ ss₀ fs₀) (lineOf (take (p .len) (p .line))))
       → o ≡ laid 0 (rowOf (a .answer .refusal) (a .answer .reading)) o₀
       → Finishes (record { taken = true; state = record { line = blank; len = 0; session = a .session }; written = rowWidth }) ts ss fs o p ts₀ ss₀ fs₀ o₀
   line-finished a ts ss fs o e n t q =

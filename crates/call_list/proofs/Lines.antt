@@ -35,7 +35,8 @@ module _ (line : List ℕ) (len : ℕ) (s : List ℕ) (i : ℕ) (h : i < length 
   unfolding nextOf
   at-full n l = rw here (simp (ne-eqb _ _ n, le-ltb _ _ l))
 
-pub at-end : (line : List ℕ) (len : ℕ) (s : List ℕ) (i : ℕ) → length s ≤ i → nextOf line len i (drop i s) ≡ record { line = line; len = len; read = i; ended = false }
+pub at-end : (line : List ℕ) (len : ℕ) (s : List ℕ) (i : ℕ) → length s ≤ i
+    → nextOf line len i (drop i s) ≡ record { line = line; len = len; read = i; ended = false }
 unfolding nextOf
 at-end line len s i h = rw (drop-of-length-le s h)
 

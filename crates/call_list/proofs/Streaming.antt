@@ -19,7 +19,8 @@ use Rattle.call_list.specs.declared.Fed.{Fed}
 use Rattle.call_list.specs.Answer.{Machine, Answered, calls, lineControlled, lineQueued, afterOf, readingOf, readAfter, rowOf}
 use Rattle.call_list.specs.Feed.{Run, kept, rowWidth, pushed, told, ended, step, runs, finished, startOf, fresh, FedBy, roomy}
 use Rattle.call_list.proofs.Laying.{length-row}
-use Rattle.call_list.specs.Whole.{lastLine, linesFrom, linesOf, answeredLine, row, answersTo, joined, none, freshMachine, answers, Writes, last, more, Program}
+use Rattle.call_list.specs.Whole.{lastLine, linesFrom, linesOf, answeredLine, answerRow, answersTo, joined, none, freshMachine, answers, Writes}
+use Rattle.call_list.specs.Whole.{last, more, Program}
 
 -- ---- a line's first bytes
 
@@ -44,7 +45,10 @@ reading-kept m l r e = pick (calls l)
     new : Bool → Answered
     new t =
         cond t
-        (record { refusal = lineControlled (m .controller) (m .queue) l .refusal; machine = record { controller = lineControlled (m .controller) (m .queue) l .controller; queue = lineQueued (m .queue) l .queue } })
+        (record {
+          refusal = lineControlled (m .controller) (m .queue) l .refusal;
+          machine = record { controller = lineControlled (m .controller) (m .queue) l .controller; queue = lineQueued (m .queue) l .queue };
+        })
         (record { refusal = lineQueued (m .queue) l .refusal; machine = record { controller = m .controller; queue = lineQueued (m .queue) l .queue } })
 
     pick : (t : Bool) → cond t (readingOf (new t .machine .controller)) r ≡ readingOf (new t .machine .controller)
@@ -106,7 +110,7 @@ module _ (r : Run) (l : List ℕ) (h : Reads r l) where
   ended-is : ended r ≡ told r (lineOf l)
   ended-is = ap (told r) (same-line r l h)
 
-  told-out : told r (lineOf l) .out ≡ r .out ++ row (answeredLine (r .machine) l)
+  told-out : told r (lineOf l) .out ≡ r .out ++ answerRow (answeredLine (r .machine) l)
   told-out =
       ap (λ (x : Reading). r .out ++ rowOf (answeredLine (r .machine) l .refusal) x) (reading-kept (r .machine) (lineOf l) (r .reading) (h .reading))
 
@@ -123,7 +127,7 @@ last-out r (b ∷ l) h =
     let z : r .len ≡ 0 → ⊥ = λ e. omega (arith, count r (b ∷ l) h) in
     simp (ne-eqb _ _ z)
     (ap (λ (x : Run). x .out) (ended-is r (b ∷ l) h) ∙ told-out r (b ∷ l) h
-    ∙ ap (λ (x : List ℕ). r .out ++ x) (sym (append-nil (row (answeredLine (r .machine) (b ∷ l))))))
+    ∙ ap (λ (x : List ℕ). r .out ++ x) (sym (append-nil (answerRow (answeredLine (r .machine) (b ∷ l))))))
 
 flow :
     (s : List ℕ) (r : Run) (l : List ℕ) → Reads r l → finished (runs r s) .out ≡ r .out ++ joined (answersTo (r .machine) (linesFrom l s))
@@ -140,7 +144,7 @@ flow (b ∷ s) r l h = pick (flow s) (eqb b 10)
         ap (λ (x : Run). finished (runs x s) .out) (ended-is r l h)
         ∙ ih (told r (lineOf l)) [] (told-reads r l h)
         ∙ ap (λ (x : List ℕ). x ++ joined (answersTo (answeredLine (r .machine) l .machine) (linesFrom [] s))) (told-out r l h)
-        ∙ append-assoc (r .out) (row (answeredLine (r .machine) l)) (joined (answersTo (answeredLine (r .machine) l .machine) (linesFrom [] s)))
+        ∙ append-assoc (r .out) (answerRow (answeredLine (r .machine) l)) (joined (answersTo (answeredLine (r .machine) l .machine) (linesFrom [] s)))
     pick ih false = ih (pushed r b) (l ++ (b ∷ [])) (reads-byte r l b h)
 
 -- ---- chunk by chunk
@@ -225,11 +229,11 @@ first-lines (suc n) m [] = take-nil (suc n * rowWidth)
 first-lines (suc n) m (l ∷ ls) =
     let a = answeredLine m l in
     let rest = joined (answersTo (a .machine) ls) in
-    let z : length (row a) ≡ rowWidth = length-row (a .refusal) (readingOf (a .machine .controller)) in
-    let k : suc n * rowWidth ≡ length (row a) + n * rowWidth = omega arith in
-    ap (λ (j : ℕ). take j (row a ++ rest)) k
-    ∙ take-append-add (row a) rest (n * rowWidth)
-    ∙ ap (λ (x : List ℕ). row a ++ x) (first-lines n (a .machine) ls)
+    let z : length (answerRow a) ≡ rowWidth = length-row (a .refusal) (readingOf (a .machine .controller)) in
+    let k : suc n * rowWidth ≡ length (answerRow a) + n * rowWidth = omega arith in
+    ap (λ (j : ℕ). take j (answerRow a ++ rest)) k
+    ∙ take-append-add (answerRow a) rest (n * rowWidth)
+    ∙ ap (λ (x : List ℕ). answerRow a ++ x) (first-lines n (a .machine) ls)
 
 -- so the first n answers are those to the first n lines, whatever follows them
 pub first-answers : (n : ℕ) (input : List ℕ) → take (n * rowWidth) (answers input) ≡ joined (answersTo freshMachine (take n (linesOf input)))

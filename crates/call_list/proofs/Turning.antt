@@ -18,7 +18,8 @@ use Rattle.call_line.specs.declared.Line.the-variants.{Taken, Refused, ReportRe
 use Rattle.call_list.specs.declared.Reading.{Reading}
 use Rattle.call_list.specs.declared.Session.{Session}
 use Rattle.call_list.specs.declared.Quiet.{Quiet}
-use Rattle.call_list.specs.Answer.{Queue, places, queueOf, machineOf, callQueued, lineQueued, callCalls, calls, callControlled, lineControlled, readingOf, afterOf, After}
+use Rattle.call_list.specs.Answer.{Queue, places, queueOf, machineOf, callQueued, lineQueued, callCalls, calls, callControlled, lineControlled}
+use Rattle.call_list.specs.Answer.{readingOf, afterOf, After}
 use Rattle.call_list.specs.Pieces.{QuietBy, calledBy, held, sameReading}
 
 -- ---- the queue
@@ -67,7 +68,8 @@ module _
 
     pub loudly :
         q .calls ≡ true
-        → After (calledBy (lineControlled (s .controller) (queueOf (s .queued) ts' ss' fs') l) (q .queued)) ts' ss' fs' (s .reading) l (afterOf (machineOf s ts ss fs) l)
+        → After (calledBy (lineControlled (s .controller) (queueOf (s .queued) ts' ss' fs') l) (q .queued)) ts' ss' fs' (s .reading) l
+        (afterOf (machineOf s ts ss fs) l)
     unfolding afterOf
     loudly e =
         let k = told-calls true e in
@@ -130,7 +132,9 @@ module _
 pub same-is : (a b : Reading) → sameReading a b ≡ true → a ≡ b
 unfolding sameReading
 same-is a b e =
-    let r = both (eqb (a .rate) (b .rate)) (eqb (a .«inherent_loss») (b .«inherent_loss») && (eqb (a .state) (b .state) && eqb (a .published) (b .published))) e in
+    let r =
+    both (eqb (a .rate) (b .rate)) (eqb (a .«inherent_loss») (b .«inherent_loss») && (eqb (a .state) (b .state) && eqb (a .published) (b .published))) e in
     let l = both (eqb (a .«inherent_loss») (b .«inherent_loss»)) (eqb (a .state) (b .state) && eqb (a .published) (b .published)) (r .1) in
     let p = both (eqb (a .state) (b .state)) (eqb (a .published) (b .published)) (l .1) in
-    rw (eqb-true (a .rate) (b .rate) (r .0), eqb-true (a .«inherent_loss») (b .«inherent_loss») (l .0), eqb-true (a .state) (b .state) (p .0), eqb-true (a .published) (b .published) (p .1))
+    rw (eqb-true (a .rate) (b .rate) (r .0), eqb-true (a .«inherent_loss») (b .«inherent_loss») (l .0), eqb-true (a .state) (b .state) (p .0))
+    (rw (eqb-true (a .published) (b .published) (p .1)))

@@ -11,6 +11,7 @@ use Rattle.bandwidth.specs.declared.Bitrate.{Bitrate}
 use Rattle.bandwidth.specs.declared.OptionBitrate.{OptionBitrate}
 use Rattle.bandwidth.specs.declared.OptionBitrate.the-variants.{Some, None}
 use Rattle.estimator.specs.State.{number}
+use Rattle.packets.specs.Summary.{mostPackets}
 use Rattle.loss_controller.specs.Controller.{answered}
 use Rattle.loss_controller.specs.Setters.{rateOf, setBandwidthEstimate, setAcknowledgedBitrate, setAlrStartTime, setLinkCapacityEstimate}
 use Rattle.loss_controller.specs.Report.{updateBandwidthEstimate}
@@ -29,9 +30,9 @@ use Rattle.call_list.specs.declared.LineAnswer.{LineAnswer}
 
 -- ---- what there is between two lines
 
--- the queue's places
+-- the queue's places: as many as a report may have packets
 abbrev pub places : ℕ
-places = 4096
+places = mostPackets
 
 -- the packets that were queued are the first `count` of the three columns
 pub record Queue : Type 0 where

@@ -29,6 +29,8 @@ rowWidth = 47
 abbrev pub blank : List ℕ
 blank = replicate kept 0
 
+-- ---- byte by byte, as the contracts of `feed` and `finish` say it; what the whole input gives is `answers` of specs/Whole
+
 -- a run: the line so far, what is between two lines, the controller's reading, and all that was written
 pub record Run : Type 0 where
   pub line : List ℕ

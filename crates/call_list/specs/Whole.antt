@@ -29,13 +29,13 @@ abbrev pub answeredLine : Machine → List ℕ → Answered
 answeredLine m l = afterOf m (lineOf l)
 
 -- "all but the refusal are read from the controller after the line, refused or not"
-abbrev pub row : Answered → List ℕ
-row a = rowOf (a .refusal) (readingOf (a .machine .controller))
+abbrev pub answerRow : Answered → List ℕ
+answerRow a = rowOf (a .refusal) (readingOf (a .machine .controller))
 
 -- the answers to lines, one after another
 unfoldable pub answersTo : Machine → List (List ℕ) → List (List ℕ)
 answersTo m [] = []
-answersTo m (l ∷ ls) = row (answeredLine m l) ∷ answersTo (answeredLine m l .machine) ls
+answersTo m (l ∷ ls) = answerRow (answeredLine m l) ∷ answersTo (answeredLine m l .machine) ls
 
 unfoldable pub joined : List (List ℕ) → List ℕ
 joined [] = []

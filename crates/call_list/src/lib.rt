@@ -111,7 +111,9 @@ fn quiet_line(
     flags: &mut [u8; PLACES],
     line: Line,
 ) -> Quiet
-    ensures { λ r. ⌜ Pieces.QuietBy r (now (times .exit)) (now (sizes .exit)) (now (flags .exit)) (Answers.calls line) (Answers.lineQueued (Answers.queueOf queued (now (times .entry)) (now (sizes .entry)) (now (flags .entry))) line) ⌝ }
+    ensures { λ r.
+        ⌜ Pieces.QuietBy r (now (times .exit)) (now (sizes .exit)) (now (flags .exit)) (Answers.calls line)
+        (Answers.lineQueued (Answers.queueOf queued (now (times .entry)) (now (sizes .entry)) (now (flags .entry))) line) ⌝ }
 {
     match line {
         Line::Taken(call) => quiet_call(queued, times, sizes, flags, call),
@@ -127,7 +129,9 @@ fn quiet_call(
     flags: &mut [u8; PLACES],
     call: Call,
 ) -> Quiet
-    ensures { λ r. ⌜ Pieces.QuietBy r (now (times .exit)) (now (sizes .exit)) (now (flags .exit)) (Answers.callCalls call) (Answers.callQueued (Answers.queueOf queued (now (times .entry)) (now (sizes .entry)) (now (flags .entry))) call) ⌝ }
+    ensures { λ r.
+        ⌜ Pieces.QuietBy r (now (times .exit)) (now (sizes .exit)) (now (flags .exit)) (Answers.callCalls call)
+        (Answers.callQueued (Answers.queueOf queued (now (times .entry)) (now (sizes .entry)) (now (flags .entry))) call) ⌝ }
 {
     match call {
         Call::Packet { time, lost, size } => {
@@ -173,7 +177,9 @@ fn queue_packet(
     lost: u8,
     size: PacketSize,
 ) -> Quiet
-    ensures { λ r. ⌜ Pieces.QuietBy r (now (times .exit)) (now (sizes .exit)) (now (flags .exit)) false (Answers.packetQueued (Answers.queueOf queued (now (times .entry)) (now (sizes .entry)) (now (flags .entry))) time lost size) ⌝ }
+    ensures { λ r.
+        ⌜ Pieces.QuietBy r (now (times .exit)) (now (sizes .exit)) (now (flags .exit)) false
+        (Answers.packetQueued (Answers.queueOf queued (now (times .entry)) (now (sizes .entry)) (now (flags .entry))) time lost size) ⌝ }
 {
     if queued >= PLACES {
         return left(FULL, queued);
@@ -282,7 +288,9 @@ fn called(
     flags: &[u8; PLACES],
     line: Line,
 ) -> LineAnswer
-    ensures { λ r. ⌜ r ≡ Pieces.calledBy (Answers.lineControlled (session .controller) (Answers.queueOf (session .queued) (now (times .entry)) (now (sizes .entry)) (now (flags .entry))) line) left ⌝ }
+    ensures { λ r.
+        ⌜ r ≡ Pieces.calledBy (Answers.lineControlled (session .controller)
+        (Answers.queueOf (session .queued) (now (times .entry)) (now (sizes .entry)) (now (flags .entry))) line) left ⌝ }
 {
     let before = session.controller;
     let queued = session.queued;
@@ -311,7 +319,9 @@ fn turn(
     flags: &mut [u8; PLACES],
     line: Line,
 ) -> LineAnswer
-    ensures { λ r. ⌜ Answers.After r (now (times .exit)) (now (sizes .exit)) (now (flags .exit)) (session .reading) line (Answers.afterOf (Answers.machineOf session (now (times .entry)) (now (sizes .entry)) (now (flags .entry))) line) ⌝ }
+    ensures { λ r.
+        ⌜ Answers.After r (now (times .exit)) (now (sizes .exit)) (now (flags .exit)) (session .reading) line
+        (Answers.afterOf (Answers.machineOf session (now (times .entry)) (now (sizes .entry)) (now (flags .entry))) line) ⌝ }
 {
     let queued = session.queued;
     let quiet = quiet_line(queued, times, sizes, flags, line);
@@ -342,7 +352,9 @@ pub fn answer_line(
     flags: &mut [u8; PLACES],
     line: &[u8],
 ) -> LineAnswer
-    ensures { λ r. ⌜ Answers.After r (now (times .exit)) (now (sizes .exit)) (now (flags .exit)) (session .reading) (lineOf (now (line .entry))) (Answers.afterOf (Answers.machineOf session (now (times .entry)) (now (sizes .entry)) (now (flags .entry))) (lineOf (now (line .entry)))) ⌝ }
+    ensures { λ r.
+        ⌜ Answers.After r (now (times .exit)) (now (sizes .exit)) (now (flags .exit)) (session .reading) (lineOf (now (line .entry)))
+        (Answers.afterOf (Answers.machineOf session (now (times .entry)) (now (sizes .entry)) (now (flags .entry))) (lineOf (now (line .entry)))) ⌝ }
 {
     let said = call_line::read_line(line);
     turn(session, times, sizes, flags, said)
@@ -473,7 +485,12 @@ fn whole_lines(
     written: usize,
 ) -> Progress
     requires { ⌜ (from ≤ length (now chunk)) × (written ≤ Feeding.rowWidth * from) × (Feeding.rowWidth * length (now chunk) ≤ length (now out)) ⌝ }
-    ensures { λ r. ⌜ (from ≤ r .read) × (written ≤ r .written) × Pieces.At (now (chunk .entry)) (now (out .entry)) (Feeding.runs (Pieces.here Feeding.blank 0 session (now (times .entry)) (now (sizes .entry)) (now (flags .entry)) (take written (now (out .entry)))) (drop from (now (chunk .entry)))) (now (times .exit)) (now (sizes .exit)) (now (flags .exit)) (now (out .exit)) Feeding.blank 0 (r .session) (r .written) (r .read) ⌝ }
+    ensures { λ r. ⌜ (from ≤ r .read) × (written ≤ r .written)
+        × Pieces.At (now (chunk .entry)) (now (out .entry))
+        (Feeding.runs
+        (Pieces.here Feeding.blank 0 session (now (times .entry)) (now (sizes .entry)) (now (flags .entry)) (take written (now (out .entry))))
+        (drop from (now (chunk .entry)))) (now (times .exit)) (now (sizes .exit)) (now (flags .exit)) (now (out .exit)) Feeding.blank 0 (r .session)
+        (r .written) (r .read) ⌝ }
 {
     let mut controller = session.controller;
     let mut reading = session.reading;
@@ -566,7 +583,9 @@ fn feed_all(
     out: &mut [u8],
 ) -> Fed
     requires { ⌜ (state .len ≤ Feeding.kept) × (Feeding.rowWidth * length (now chunk) ≤ length (now out)) ⌝ }
-    ensures { λ r. ⌜ (r .taken ≡ true) × Feeding.FedBy r (now (times .exit)) (now (sizes .exit)) (now (flags .exit)) (now (out .exit)) (Feeding.runs (Feeding.startOf state (now (times .entry)) (now (sizes .entry)) (now (flags .entry))) (now (chunk .entry))) (now (out .entry)) ⌝ }
+    ensures { λ r. ⌜ (r .taken ≡ true)
+        × Feeding.FedBy r (now (times .exit)) (now (sizes .exit)) (now (flags .exit)) (now (out .exit))
+        (Feeding.runs (Feeding.startOf state (now (times .entry)) (now (sizes .entry)) (now (flags .entry))) (now (chunk .entry))) (now (out .entry)) ⌝ }
 {
     let mut line = state.line;
     let mut len = state.len;
@@ -611,7 +630,9 @@ pub fn feed(
     chunk: &[u8],
     out: &mut [u8],
 ) -> Fed
-    ensures { λ r. ⌜ Feeding.Feeds r (now (times .exit)) (now (sizes .exit)) (now (flags .exit)) (now (out .exit)) state (now (times .entry)) (now (sizes .entry)) (now (flags .entry)) (now (chunk .entry)) (now (out .entry)) ⌝ }
+    ensures { λ r.
+        ⌜ Feeding.Feeds r (now (times .exit)) (now (sizes .exit)) (now (flags .exit)) (now (out .exit)) state (now (times .entry))
+        (now (sizes .entry)) (now (flags .entry)) (now (chunk .entry)) (now (out .entry)) ⌝ }
 {
     let len = state.len;
     if len > KEPT {
@@ -631,7 +652,9 @@ pub fn finish(
     flags: &mut [u8; PLACES],
     out: &mut [u8],
 ) -> Fed
-    ensures { λ r. ⌜ Feeding.Finishes r (now (times .exit)) (now (sizes .exit)) (now (flags .exit)) (now (out .exit)) state (now (times .entry)) (now (sizes .entry)) (now (flags .entry)) (now (out .entry)) ⌝ }
+    ensures { λ r.
+        ⌜ Feeding.Finishes r (now (times .exit)) (now (sizes .exit)) (now (flags .exit)) (now (out .exit)) state (now (times .entry))
+        (now (sizes .entry)) (now (flags .entry)) (now (out .entry)) ⌝ }
 {
     let line = state.line;
     let len = state.len;

@@ -28,11 +28,12 @@ step-covered calls call =
     }
 
 -- `update_lent`, by its contract
-pub lent-covered : (calls : List Call) (times sizes flags : List ℕ) (delay : ℕ) → Covered calls (report times sizes flags delay) (updateBandwidthEstimate (left calls) times sizes flags (rateOf delay))
+pub lent-covered : (calls : List Call) (times sizes flags : List ℕ) (delay : ℕ)
+    → Covered calls (report times sizes flags delay) (updateBandwidthEstimate (left calls) times sizes flags (rateOf delay))
 unfolding step
 lent-covered calls times sizes flags delay = step-covered calls (report times sizes flags delay)
 
--- `update_records` and `update_records_lent`, by theirs
+-- `update_records`, by its own
 pub records-covered : (calls : List Call) (records : List PacketResult) (delay : ℕ)
     → Covered calls (report (times records) (sizes records) (flags records) delay) (updateRecords (left calls) records (rateOf delay))
 records-covered calls records delay = lent-covered calls (times records) (sizes records) (flags records) delay

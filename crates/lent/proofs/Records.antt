@@ -1,5 +1,5 @@
 -- Records summed one by one give what their columns give. Assumes nothing.
-use Prim.Native.Nat.{ℕ, _+_, _*_, _^_, _≤_, _<_}
+use Prim.Native.Nat.{ℕ, _+_, _≤_, _<_}
 use mathlib.Core.Path.{_≡_, refl, ap, _∙_}
 use mathlib.Core.Bool.{Bool, true, false, cond}
 use mathlib.Core.List.{List, [], _∷_, foldl}
@@ -9,7 +9,7 @@ use lib.Dec.{eqb, leb}
 use lib.ListN.{length, getD, drop, length-map}
 use Rattle.float.proofs.Fold.{fold-again, fold-end}
 use Rattle.bandwidth.specs.declared.Bitrate.{Bitrate}
-use Rattle.packets.specs.Summary.{columnsRefusal, packets, refused, addPacket, added, summaryOf, isOfReport, largestPacket}
+use Rattle.packets.specs.Summary.{columnsRefusal, packets, refused, addPacket, added, summaryOf, isOfReport, mostPackets, latestTime, largestPacket}
 use Rattle.packets.specs.declared.PacketResult.{PacketResult}
 use Rattle.packets.specs.declared.SummaryAnswer.{SummaryAnswer}
 use Rattle.packets.proofs.Totals.{TotalsOf, none-within, within-larger, within-more, of-report, added-is, summary-early}
@@ -26,17 +26,17 @@ none = record { «local_send_time» = 0; size = 0; lost = 0 }
 
 -- ---- the loop
 
-abbrev whole : List PacketResult → SummaryAnswer
-whole ps = foldl addPacket (refused 0) ps
+abbrev summedRecords : List PacketResult → SummaryAnswer
+summedRecords ps = foldl addPacket (refused 0) ps
 
 -- after i turns: where the records are not too many, the totals are of at most i packets and some report's, and the records that are left give the whole
 pub record Summed (ps : List PacketResult) (i : ℕ) (a : SummaryAnswer) : Type 0 where
-  pub within : length ps ≤ 4096 → TotalsOf i (a .summary)
-  pub passes : length ps ≤ 4096 → isOfReport (a .summary) ≡ true
-  pub left : length ps ≤ 4096 → foldl addPacket a (drop i ps) ≡ whole ps
+  pub within : length ps ≤ mostPackets → TotalsOf i (a .summary)
+  pub passes : length ps ≤ mostPackets → isOfReport (a .summary) ≡ true
+  pub left : length ps ≤ mostPackets → foldl addPacket a (drop i ps) ≡ summedRecords ps
 
 pub summed-none : (ps : List PacketResult) (a : SummaryAnswer) → a ≡ refused 0 → Summed ps 0 a
-summed-none ps a e = rw e (record { within = λ few. none-within 0; passes = λ few. of-report _ (none-within 4096); left = λ few. refl })
+summed-none ps a e = rw e (record { within = λ few. none-within 0; passes = λ few. of-report _ (none-within mostPackets); left = λ few. refl })
 
 pub summed-more : (ps : List PacketResult) (i : ℕ) (a r : SummaryAnswer) → i < length ps → getD ps i none .size ≤ largestPacket → r ≡ added a (getD ps i none)
     → Summed ps i a → Summed ps (i + 1) r
@@ -44,26 +44,31 @@ summed-more ps i a r l size e s =
     record {
       within = more;
       passes = λ few. of-report _ (within-larger _ (omega (arith, few, l)) (more few));
-      left = λ few. fold-again addPacket a r (whole ps) ps i none l (is few) (s .left few);
+      left = λ few. fold-again addPacket a r (summedRecords ps) ps i none l (is few) (s .left few);
     }
   where
-    is : length ps ≤ 4096 → r ≡ addPacket a (getD ps i none)
+    is : length ps ≤ mostPackets → r ≡ addPacket a (getD ps i none)
     is few = e ∙ added-is a _ (within-larger _ (omega (arith, few, l)) (s .within few))
 
-    more : length ps ≤ 4096 → TotalsOf (i + 1) (r .summary)
+    more : length ps ≤ mostPackets → TotalsOf (i + 1) (r .summary)
     more few = rw (is few) (within-more i a _ size (s .within few))
 
-pub summed-all : (ps : List PacketResult) (i : ℕ) (a : SummaryAnswer) → length ps ≤ i → Summed ps i a → length ps ≤ 4096
-    → (a ≡ whole ps) × (isOfReport (a .summary) ≡ true)
-summed-all ps i a l s few = (fold-end addPacket a (whole ps) ps i l (s .left few), s .passes few)
+pub summed-all : (ps : List PacketResult) (i : ℕ) (a : SummaryAnswer) → length ps ≤ i → Summed ps i a → length ps ≤ mostPackets
+    → (a ≡ summedRecords ps) × (isOfReport (a .summary) ≡ true)
+summed-all ps i a l s few = (fold-end addPacket a (summedRecords ps) ps i l (s .left few), s .passes few)
 
 -- ---- the columns
 
 -- records have columns of one length
-columns-even : (ps : List PacketResult) → columnsRefusal (times ps) (sizes ps) (flags ps) ≡ cond (leb (length ps) 4096) 0 5
+columns-even : (ps : List PacketResult) → columnsRefusal (times ps) (sizes ps) (flags ps) ≡ cond (leb (length ps) mostPackets) 0 5
 unfolding columnsRefusal
 columns-even ps =
-    simp (length-map ps (λ (p : PacketResult). p .«local_send_time»), length-map ps (λ (p : PacketResult). p .size), length-map ps (λ (p : PacketResult). p .lost), eq-eqb (length ps) (length ps) refl)
+    simp (
+      length-map ps (λ (p : PacketResult). p .«local_send_time»),
+      length-map ps (λ (p : PacketResult). p .size),
+      length-map ps (λ (p : PacketResult). p .lost),
+      eq-eqb (length ps) (length ps) refl,
+    )
 
 -- and tell of those records
 columns-of : (ps : List PacketResult) → packets (times ps) (sizes ps) (flags ps) ≡ ps
@@ -71,36 +76,39 @@ unfolding packets
 columns-of [] = refl
 columns-of (p ∷ ps) = ap (λ (qs : List PacketResult). p ∷ qs) (columns-of ps)
 
-summary-of : (ps : List PacketResult) → length ps ≤ 4096 → summaryOf (times ps) (sizes ps) (flags ps) ≡ whole ps
+summary-of : (ps : List PacketResult) → length ps ≤ mostPackets → summaryOf (times ps) (sizes ps) (flags ps) ≡ summedRecords ps
 unfolding summaryOf
-summary-of ps few = rw (columns-even ps, le-leb (length ps) 4096 few, columns-of ps) refl
+summary-of ps few = rw (columns-even ps, le-leb (length ps) mostPackets few, columns-of ps) refl
 
 -- ---- the report
 
 module _ (c : LossController) (ps : List PacketResult) (delay : Bitrate) where
   -- totals of packets that were taken get neither 5 nor 2 nor 3 any more
-  with-summary : length ps ≤ 4096 → isOfReport (whole ps .summary) ≡ true → rateRefusal delay ≡ 0 → updateWithSummary c (whole ps .summary) delay ≡ reported c (whole ps .summary) delay
+  with-summary : length ps ≤ mostPackets → isOfReport (summedRecords ps .summary) ≡ true → rateRefusal delay ≡ 0
+      → updateWithSummary c (summedRecords ps .summary) delay ≡ reported c (summedRecords ps .summary) delay
   unfolding updateWithSummary timeRefusal
   with-summary few passes rate =
-      let early : whole ps .summary .«last_send_time» ≤ 4 * 10 ^ 18 = rw (← summary-of ps few) (summary-early (times ps) (sizes ps) (flags ps)) in
-      rw (passes, rate, le-leb (whole ps .summary .«last_send_time») (4 * 10 ^ 18) early) refl
+      let early : summedRecords ps .summary .«last_send_time» ≤ latestTime = rw (← summary-of ps few) (summary-early (times ps) (sizes ps) (flags ps)) in
+      rw (passes, rate, le-leb (summedRecords ps .summary .«last_send_time») latestTime early) refl
 
-  after-rate : length ps ≤ 4096 → isOfReport (whole ps .summary) ≡ true → (b : Bool) → eqb (rateRefusal delay) 0 ≡ b
-      → cond b (checked c (whole ps .refusal) (updateWithSummary c (whole ps .summary) delay)) (Controller.refused c (rateRefusal delay))
-      ≡ cond b (checked c (whole ps .refusal) (reported c (whole ps .summary) delay)) (Controller.refused c (rateRefusal delay))
+  after-rate : length ps ≤ mostPackets → isOfReport (summedRecords ps .summary) ≡ true → (b : Bool) → eqb (rateRefusal delay) 0 ≡ b
+      → cond b (checked c (summedRecords ps .refusal) (updateWithSummary c (summedRecords ps .summary) delay)) (Controller.refused c (rateRefusal delay))
+      ≡ cond b (checked c (summedRecords ps .refusal) (reported c (summedRecords ps .summary) delay)) (Controller.refused c (rateRefusal delay))
   after-rate few passes true e = rw (with-summary few passes (eqb-true (rateRefusal delay) 0 e)) refl
   after-rate few passes false e = refl
 
   -- the whole call
-  pub same-report : (a : SummaryAnswer) → (length ps ≤ 4096 → (a ≡ whole ps) × (isOfReport (a .summary) ≡ true)) → finished c (length ps) a delay ≡ updateRecords c ps delay
+  pub same-report : (a : SummaryAnswer) → (length ps ≤ mostPackets → (a ≡ summedRecords ps) × (isOfReport (a .summary) ≡ true))
+      → finished c (length ps) a delay ≡ updateRecords c ps delay
   unfolding finished updateBandwidthEstimate
-  same-report a is = rw (columns-even ps) (go (leb (length ps) 4096) refl)
+  same-report a is = rw (columns-even ps) (go (leb (length ps) mostPackets) refl)
     where
-      go : (b : Bool) → leb (length ps) 4096 ≡ b
+      go : (b : Bool) → leb (length ps) mostPackets ≡ b
           → checked c (cond b 0 5) (checked c (rateRefusal delay) (checked c (a .refusal) (updateWithSummary c (a .summary) delay)))
-          ≡ (let s = summaryOf (times ps) (sizes ps) (flags ps) in checked c (cond b 0 5) (checked c (rateRefusal delay) (checked c (s .refusal) (reported c (s .summary) delay))))
+          ≡ (let s = summaryOf (times ps) (sizes ps) (flags ps) in
+          checked c (cond b 0 5) (checked c (rateRefusal delay) (checked c (s .refusal) (reported c (s .summary) delay))))
       go true e =
-          let few = leb-true (length ps) 4096 e in
+          let few = leb-true (length ps) mostPackets e in
           let same = is few in
           rw (same .0, summary-of ps few) (after-rate few (rw (same .0) at (same .1)) (eqb (rateRefusal delay) 0) refl)
       go false e = refl

@@ -4,6 +4,7 @@ use mathlib.Core.Bool.{cond}
 use mathlib.Core.List.{List, map}
 use lib.Dec.{leb}
 use Rattle.bandwidth.specs.declared.Bitrate.{Bitrate}
+use Rattle.packets.specs.Summary.{mostPackets}
 use Rattle.packets.specs.declared.PacketResult.{PacketResult}
 use Rattle.packets.specs.declared.SummaryAnswer.{SummaryAnswer}
 use Rattle.loss_controller.specs.Controller.{checked}
@@ -27,11 +28,11 @@ flags records = map (λ (p : PacketResult). p .lost) records
 abbrev pub updateRecords : LossController → List PacketResult → Bitrate → ControllerAnswer
 updateRecords c records delay = updateBandwidthEstimate c (times records) (sizes records) (flags records) delay
 
--- ---- once the records are summed
+-- ---- for the proof alone: what the private `finish` gives, which no statement of document 01 has
 
--- 5 for more than 4,096 records, 2, the records' 3 and 8, then what a report of such totals gives
+-- of a count of records and what they summed to: 5, 2, the records' 3 and 8, then what a report of such totals gives
 unfoldable pub finished : LossController → ℕ → SummaryAnswer → Bitrate → ControllerAnswer
 finished c count summed delay =
-    checked c (cond (leb count 4096) 0 5)
+    checked c (cond (leb count mostPackets) 0 5)
     (checked c (rateRefusal delay)
     (checked c (summed .refusal) (updateWithSummary c (summed .summary) delay)))

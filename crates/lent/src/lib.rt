@@ -1,5 +1,5 @@
-// Thin forms of the report: over a lent controller, over a slice of packet records, and over both.
-// Each gives what the call by value over three columns gives.
+// Thin forms of the report: over a lent controller, and over a slice of packet records. Each gives
+// what the call by value over three columns gives.
 ghost use mathlib.Core.Path.{_≡_};
 ghost use Rattle.loss_controller.specs.Report.{updateBandwidthEstimate};
 ghost use Rattle.lent.specs.Records.{updateRecords, finished};
@@ -18,8 +18,11 @@ pub fn update_lent(
     flags: &[u8],
     delay_based_estimated: Bitrate,
 ) -> u8
-    ensures { λ r. ⌜ (r ≡ updateBandwidthEstimate (now (controller .entry)) (now (times .entry)) (now (sizes .entry)) (now (flags .entry)) «delay_based_estimated» .refusal)
-        × (now (controller .exit) ≡ updateBandwidthEstimate (now (controller .entry)) (now (times .entry)) (now (sizes .entry)) (now (flags .entry)) «delay_based_estimated» .controller) ⌝ }
+    ensures { λ r. ⌜ (r
+        ≡ updateBandwidthEstimate (now (controller .entry)) (now (times .entry)) (now (sizes .entry)) (now (flags .entry)) «delay_based_estimated» .refusal)
+        × (now (controller .exit)
+        ≡ updateBandwidthEstimate (now (controller .entry)) (now (times .entry)) (now (sizes .entry)) (now (flags .entry)) «delay_based_estimated» .controller)
+        ⌝ }
 {
     let answer = (*controller).update_bandwidth_estimate(
         times,
@@ -78,18 +81,4 @@ fn finish(
         };
     }
     controller.update_with_summary(summed.summary, delay_based_estimated)
-}
-
-// The report over packet records, on a controller that is lent.
-pub fn update_records_lent(
-    controller: &mut LossController,
-    records: &[PacketResult],
-    delay_based_estimated: Bitrate,
-) -> u8
-    ensures { λ r. ⌜ (r ≡ updateRecords (now (controller .entry)) (now (records .entry)) «delay_based_estimated» .refusal)
-        × (now (controller .exit) ≡ updateRecords (now (controller .entry)) (now (records .entry)) «delay_based_estimated» .controller) ⌝ }
-{
-    let answer = update_records(*controller, records, delay_based_estimated);
-    *controller = answer.controller;
-    answer.refusal
 }

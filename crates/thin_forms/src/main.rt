@@ -127,7 +127,7 @@ fn by_loan(
     }
 }
 
-// The forms over packet records, of which the lent one calls the other.
+// The form over packet records, on an array that is lent.
 fn of_records(
     controller: LossController,
     records: [PacketResult; 3],
@@ -135,12 +135,7 @@ fn of_records(
 ) -> ControllerAnswer
     ensures { λ r. ⌜ r ≡ updateRecords controller records delay ⌝ }
 {
-    let mut own = controller;
-    let refusal = lent::update_records_lent(&mut own, &records, delay);
-    ControllerAnswer {
-        controller: own,
-        refusal,
-    }
+    lent::update_records(controller, &records, delay)
 }
 
 fn read(answer: ControllerAnswer) -> Seen {

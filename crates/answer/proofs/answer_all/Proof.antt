@@ -32,11 +32,15 @@ take-turn-requires c κs = search needs
 
 -- src/main.rt:48:13
 same-length : tie.Need-same-length Inv-loop μ-loop
-same-length c = c .before .before .before .before .before .before .before .take-turn .kept .1 .1 .1 .1 .0 ∙ c .before .before .before .before .before .before .before .before .before .before .before .before .before .before .loop .inv .0
+same-length c =
+    c .before .before .before .before .before .before .before .take-turn .kept .1 .1 .1 .1 .0
+    ∙ c .before .before .before .before .before .before .before .before .before .before .before .before .before .before .loop .inv .0
 
 -- src/main.rt:48:13
 same-length-2 : tie.Need-same-length-2 Inv-loop μ-loop
-same-length-2 c = c .before .before .before .before .before .before .before .take-turn .kept .1 .1 .1 .1 .1 .0 ∙ c .before .before .before .before .before .before .before .before .before .before .before .before .before .before .loop .inv .1
+same-length-2 c =
+    c .before .before .before .before .before .before .before .take-turn .kept .1 .1 .1 .1 .1 .0
+    ∙ c .before .before .before .before .before .before .before .before .before .before .before .before .before .before .loop .inv .1
 
 -- src/main.rt:48:13
 returns : tie.Need-returns Inv-loop μ-loop
@@ -52,7 +56,13 @@ loop-less c = search needs
 
 -- src/main.rt:44:5
 loop-again : tie.Need-loop-again Inv-loop μ-loop
-loop-again c = (c .before .before .before .before .before .before .before .take-turn .kept .1 .1 .1 .1 .0 ∙ c .before .before .before .before .before .before .before .before .before .before .before .before .before .before .loop .inv .0, c .before .before .before .before .before .before .before .take-turn .kept .1 .1 .1 .1 .1 .0 ∙ c .before .before .before .before .before .before .before .before .before .before .before .before .before .before .loop .inv .1, c .before .before .before .before .before .before .before .take-turn .ensures)
+loop-again c = (
+  c .before .before .before .before .before .before .before .take-turn .kept .1 .1 .1 .1 .0
+      ∙ c .before .before .before .before .before .before .before .before .before .before .before .before .before .before .loop .inv .0,
+  c .before .before .before .before .before .before .before .take-turn .kept .1 .1 .1 .1 .1 .0
+      ∙ c .before .before .before .before .before .before .before .before .before .before .before .before .before .before .loop .inv .1,
+  c .before .before .before .before .before .before .before .take-turn .ensures,
+)
 
 -- src/main.rt:33:1
 same-length-3 : tie.Need-same-length-3 Inv-loop μ-loop

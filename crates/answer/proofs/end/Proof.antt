@@ -20,15 +20,41 @@ finish-requires c κs = search needs
 
 -- src/main.rt:105:5
 expect-requires : tie.Need-expect-requires
-expect-requires c κs = end-taken (c .before .before .finish .result) _ _ _ _ (c .before .before .before .before .before .before .before .before .args .state) (c .before .before .before .before .before .before .before .before .args .times .now) (c .before .before .before .before .before .before .before .before .args .sizes .now) (c .before .before .before .before .before .before .before .before .args .flags .now) (c .before .before .before .before .before .before .before .before .args .out .now) (c .before .before .before .before .before .before .before .before .pre .0) (c .before .before .before .before .before .before .before .before .pre .1) (c .before .before .finish .ensures)
+expect-requires c κs =
+    end-taken (c .before .before .finish .result) _ _ _ _ (c .before .before .before .before .before .before .before .before .args .state)
+    (c .before .before .before .before .before .before .before .before .args .times .now)
+    (c .before .before .before .before .before .before .before .before .args .sizes .now)
+    (c .before .before .before .before .before .before .before .before .args .flags .now)
+    (c .before .before .before .before .before .before .before .before .args .out .now)
+    (c .before .before .before .before .before .before .before .before .pre .0)
+    (c .before .before .before .before .before .before .before .before .pre .1) (c .before .before .finish .ensures)
 
 -- src/main.rt:107:34
 slice-reshare-prefix-write-all : tie.Need-slice-reshare-prefix-write-all
-slice-reshare-prefix-write-all c = end-fits (c .before .before .before .finish .result) _ _ _ _ (c .before .before .before .before .before .before .before .before .before .args .state) (c .before .before .before .before .before .before .before .before .before .args .times .now) (c .before .before .before .before .before .before .before .before .before .args .sizes .now) (c .before .before .before .before .before .before .before .before .before .args .flags .now) (c .before .before .before .before .before .before .before .before .before .args .out .now) (c .before .before .before .before .before .before .before .before .before .pre .0) (c .before .before .before .before .before .before .before .before .before .pre .1) (c .before .before .before .finish .ensures) (c .before .before .before .finish .kept .1 .1 .1 .1 .0)
+slice-reshare-prefix-write-all c =
+    end-fits (c .before .before .before .finish .result)
+    _ _ _ _ (c .before .before .before .before .before .before .before .before .before .args .state)
+    (c .before .before .before .before .before .before .before .before .before .args .times .now)
+    (c .before .before .before .before .before .before .before .before .before .args .sizes .now)
+    (c .before .before .before .before .before .before .before .before .before .args .flags .now)
+    (c .before .before .before .before .before .before .before .before .before .args .out .now)
+    (c .before .before .before .before .before .before .before .before .before .pre .0)
+    (c .before .before .before .before .before .before .before .before .before .pre .1) (c .before .before .before .finish .ensures)
+    (c .before .before .before .finish .kept .1 .1 .1 .1 .0)
 
 -- src/main.rt:107:34
 slice-aggregate-write-all : tie.Need-slice-aggregate-write-all
-slice-aggregate-write-all c = sym (length-take-le _ _ (end-fits (c .before .before .before .before .finish .result) _ _ _ _ (c .before .before .before .before .before .before .before .before .before .before .args .state) (c .before .before .before .before .before .before .before .before .before .before .args .times .now) (c .before .before .before .before .before .before .before .before .before .before .args .sizes .now) (c .before .before .before .before .before .before .before .before .before .before .args .flags .now) (c .before .before .before .before .before .before .before .before .before .before .args .out .now) (c .before .before .before .before .before .before .before .before .before .before .pre .0) (c .before .before .before .before .before .before .before .before .before .before .pre .1) (c .before .before .before .before .finish .ensures) (c .before .before .before .before .finish .kept .1 .1 .1 .1 .0)))
+slice-aggregate-write-all c =
+    sym (length-take-le _ _
+    (end-fits (c .before .before .before .before .finish .result) _ _ _ _
+    (c .before .before .before .before .before .before .before .before .before .before .args .state)
+    (c .before .before .before .before .before .before .before .before .before .before .args .times .now)
+    (c .before .before .before .before .before .before .before .before .before .before .args .sizes .now)
+    (c .before .before .before .before .before .before .before .before .before .before .args .flags .now)
+    (c .before .before .before .before .before .before .before .before .before .before .args .out .now)
+    (c .before .before .before .before .before .before .before .before .before .before .pre .0)
+    (c .before .before .before .before .before .before .before .before .before .before .pre .1) (c .before .before .before .before .finish .ensures)
+    (c .before .before .before .before .finish .kept .1 .1 .1 .1 .0)))
 
 -- src/main.rt:107:5
 write-all-requires : tie.Need-write-all-requires

@@ -20,7 +20,8 @@ slice-aggregate-answer-all-2 c = sym (length-replicate {0} {A = ℕ} 3080192 0)
 
 answer-all-requires : tie.Need-answer-all-requires
 answer-all-requires c κs =
-    let r = room (replicate 65536 0) (replicate 3080192 0) (length-replicate {0} {A = ℕ} 65536 0) (length-replicate {0} {A = ℕ} 3080192 0) in (refl, refl, refl, r .0, r .1)
+    let r = room (replicate 65536 0) (replicate 3080192 0) (length-replicate {0} {A = ℕ} 65536 0) (length-replicate {0} {A = ℕ} 3080192 0) in
+    (refl, refl, refl, r .0, r .1)
 
 returns : tie.Need-returns
 returns c = tt

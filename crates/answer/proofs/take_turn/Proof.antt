@@ -29,12 +29,24 @@ fed c =
     let a = c .before .before .before .before .before .before .before .before .before .before .before .before .before .before .before .before in
     let n = c .before .before .before .before .before .before .count .result in
     let r = c .before .before .before .before .before .before .before .before .before .before .before .before .read .last .1 .0 in
-    let l : length (take n r) ≤ length (a .args .out .now) / rowWidth = omega (arith, length-take n r, c .before .before .before .before .before .before .before .before .before .before .before .before .read .kept .1 .0, a .pre .1) in
+    let l : length (take n r) ≤ length (a .args .out .now) / rowWidth =
+    omega (
+      arith,
+      length-take n r,
+      c .before .before .before .before .before .before .before .before .before .before .before .before .read .kept .1 .0,
+      a .pre .1,
+    ) in
     let t = c .feed .ensures in
     record {
-      taken = fed-taken (c .feed .result) _ _ _ _ (a .args .state) (a .args .times .now) (a .args .sizes .now) (a .args .flags .now) (take n r) (a .args .out .now) (a .pre .0) l t;
-      short = fed-short (c .feed .result) _ _ _ _ (a .args .state) (a .args .times .now) (a .args .sizes .now) (a .args .flags .now) (take n r) (a .args .out .now) (a .pre .0) l t;
-      fit = fed-fits (c .feed .result) _ _ _ _ (a .args .state) (a .args .times .now) (a .args .sizes .now) (a .args .flags .now) (take n r) (a .args .out .now) (a .pre .0) l t (c .feed .kept .1 .1 .1 .1 .1 .0);
+      taken =
+          fed-taken (c .feed .result) _ _ _ _ (a .args .state) (a .args .times .now) (a .args .sizes .now) (a .args .flags .now) (take n r)
+          (a .args .out .now) (a .pre .0) l t;
+      short =
+          fed-short (c .feed .result) _ _ _ _ (a .args .state) (a .args .times .now) (a .args .sizes .now) (a .args .flags .now) (take n r)
+          (a .args .out .now) (a .pre .0) l t;
+      fit =
+          fed-fits (c .feed .result) _ _ _ _ (a .args .state) (a .args .times .now) (a .args .sizes .now) (a .args .flags .now) (take n r)
+          (a .args .out .now) (a .pre .0) l t (c .feed .kept .1 .1 .1 .1 .1 .0);
     }
 
 -- src/main.rt:66:9

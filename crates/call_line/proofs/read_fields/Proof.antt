@@ -13,7 +13,8 @@ use Rattle.call_line.specs.declared.Number.the-variants.{Value, Wrong}
 use Rattle.call_line.specs.Column.{asciiZero, isDigit, more, columnOf, digitsOf, start, cut}
 use Rattle.call_line.specs.Line.{widths}
 use Rattle.call_line.proofs.Reading.{digit-bounds, digits-fit}
-use Rattle.call_line.proofs.Columns.{part, start-next, within, length-part, spaces-within, column-is, digit-more, no-digit-at, cut-part, other-width, wrong-column, right-columns, one-more}
+use Rattle.call_line.proofs.Columns.{part, start-next, within, length-part, spaces-within, column-is, digit-more, no-digit-at, cut-part}
+use Rattle.call_line.proofs.Columns.{other-width, wrong-column, right-columns, one-more}
 use Rattle.call_line.proofs.read_fields.Statement.{statement}
 use Rattle.call_line.proofs.read_fields.Tie as tie
 
@@ -221,8 +222,10 @@ returns-2 c =
     ⊎-elim
     (λ w. absurd (omega arith))
     (⊎-elim
-    (λ w. odd (record { before = record { before = record { before = l; columns-test = w .0 }; leading-spaces-arg = w .1 }; leading-spaces = w .2 }) (w .3 .i) (w .3 .inv .0) (omega arith) (sym (w .6 .ensures) ∙ not-true _ (w .7 .taken)))
-    (λ w. says (record { before = record { before = record { before = l; columns-test = w .0 }; leading-spaces-arg = w .1 }; leading-spaces = w .2 }) ∙ sym (w .6 .ensures) ∙ w .8 .given .1))
+    (λ w. odd (record { before = record { before = record { before = l; columns-test = w .0 }; leading-spaces-arg = w .1 }; leading-spaces = w .2 })
+    (w .3 .i) (w .3 .inv .0) (omega arith) (sym (w .6 .ensures) ∙ not-true _ (w .7 .taken)))
+    (λ w. says (record { before = record { before = record { before = l; columns-test = w .0 }; leading-spaces-arg = w .1 }; leading-spaces = w .2 })
+    ∙ sym (w .6 .ensures) ∙ w .8 .given .1))
     (c .before .columns-test .came) in
     sym (wrong-column s (l .before .if1 .left) (l .columns .k) (c .if3 .taken) wrong)
 

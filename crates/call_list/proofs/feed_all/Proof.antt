@@ -8,13 +8,14 @@ use lib.Seq.{length-take-le}
 use Rattle.call_list.specs.Feed.{rowWidth, blank, runs, startOf}
 use Rattle.call_list.specs.Pieces.{At}
 use Rattle.call_list.proofs.Laying.{length-text}
-use Rattle.call_list.proofs.Feeding.{Kept, kept-line, row-fits, one-line, no-line, line-more, line-within, line-run, go-on, all-read}
+use Rattle.call_list.proofs.Feeding.{KeptLine, kept-line, row-fits, one-line, no-line, line-more, line-within, line-run, go-on, all-read}
 use Rattle.call_list.proofs.feed_all.Statement.{statement}
 use Rattle.call_list.proofs.feed_all.Tie as tie
 
 abbrev Inv-loop : tie.InvT-loop
 Inv-loop times₀ sizes₀ flags₀ chunk out₀ line₀ len₀ session₀ w₀ i₀ times sizes flags out line len session w i =
-    At chunk out₀ (runs (startOf (record { line = line₀; len = len₀; session = session₀ }) times₀ sizes₀ flags₀) chunk) times sizes flags out line len session w i
+    At chunk out₀ (runs (startOf (record { line = line₀; len = len₀; session = session₀ }) times₀ sizes₀ flags₀) chunk) times sizes flags out line
+    len session w i
 
 abbrev μ-loop : tie.MeasureT-loop
 μ-loop times₀ sizes₀ flags₀ chunk out₀ line₀ len₀ session₀ w₀ i₀ times sizes flags out line len session w i =
@@ -48,7 +49,7 @@ read-on-requires c κs = (c .before .loop .inv .short, c .before .loop .inv .rea
 
 -- ---- the line that ended
 
-kept : (c : tie.Then1 Inv-loop μ-loop) → Kept (c .before .before .read-on .result .line) (c .before .before .read-on .result .len)
+kept : (c : tie.Then1 Inv-loop μ-loop) → KeptLine (c .before .before .read-on .result .line) (c .before .before .read-on .result .len)
 kept c =
     let h = head (c .before) in
     kept-line _ _ _ _ _ _ _ _ _ _ _ _ (h .before .loop .inv) (h .loop-test .taken) (begin h .pre .1) _ (c .before .before .read-on .ensures)
@@ -78,7 +79,8 @@ fits c =
     row-fits _ _ _ _ _ _ _ _ _ _ _ _ (h .before .loop .inv) (h .loop-test .taken) (begin h .pre .1)
 
 put-row-requires : tie.Need-put-row-requires Inv-loop μ-loop
-put-row-requires c κs = (ap length (c .before .before .text .ensures) ∙ length-text _, fits (c .before .before .before .before .before .before .before .before .before .before))
+put-row-requires c κs =
+    (ap length (c .before .before .text .ensures) ∙ length-text _, fits (c .before .before .before .before .before .before .before .before .before .before))
 
 more : (c : tie.Then1 Inv-loop μ-loop) → head (c .before) .before .loop .i < c .before .before .read-on .result .read
 more c =
@@ -93,7 +95,8 @@ turned :
     let a = begin h .args in
     let d = c .before .before .before .before .before .before .answer-line in
     At (a .chunk .now) (a .out .now) (runs (startOf (a .state) (a .times .now) (a .sizes .now) (a .flags .now)) (a .chunk .now))
-    (d .last .1 .0) (d .last .1 .1 .0) (d .last .1 .1 .1 .0) (c .put-row .last .1 .1 .0) blank 0 (d .result .session) (h .before .loop .w + rowWidth) (t .before .before .read-on .result .read))
+    (d .last .1 .0) (d .last .1 .1 .0) (d .last .1 .1 .1 .0) (c .put-row .last .1 .1 .0) blank 0 (d .result .session) (h .before .loop .w + rowWidth)
+    (t .before .before .read-on .result .read))
 turned c =
     let t = row-written c in
     let h = head (t .before) in
@@ -102,7 +105,8 @@ turned c =
     let big = begin h .pre .1 in
     let e = t .before .before .read-on .ensures in
     let q = t .if1 .taken in
-    one-line _ _ _ _ _ _ _ _ _ _ _ _ (l .inv) m big _ _ (more t) (line-within _ _ _ _ _ _ _ _ _ _ _ _ (l .inv) m big _ e q) (line-run _ _ _ _ _ _ _ _ _ _ _ _ (l .inv) m big _ e q)
+    one-line _ _ _ _ _ _ _ _ _ _ _ _ (l .inv) m big _ _ (more t) (line-within _ _ _ _ _ _ _ _ _ _ _ _ (l .inv) m big _ e q)
+    (line-run _ _ _ _ _ _ _ _ _ _ _ _ (l .inv) m big _ e q)
     _ _ _ _ _ _ (c .before .before .before .before .before .before .answer-line .ensures) (c .before .before .before .text .ensures) (c .put-row .ensures)
 
 -- ---- the lines that stand whole after it
@@ -135,7 +139,8 @@ none : (c : tie.Else1 Inv-loop μ-loop) → (let h = head (c .before) in
     let l = h .before .loop in
     let a = begin h .args in
     let n = c .before .before .read-on .result in
-    (l .i < n .read) × At (a .chunk .now) (a .out .now) (runs (startOf (a .state) (a .times .now) (a .sizes .now) (a .flags .now)) (a .chunk .now)) (l .times) (l .sizes) (l .flags) (l .out) (n .line) (n .len) (l .session) (l .w) (n .read))
+    (l .i < n .read) × At (a .chunk .now) (a .out .now) (runs (startOf (a .state) (a .times .now) (a .sizes .now) (a .flags .now)) (a .chunk .now))
+    (l .times) (l .sizes) (l .flags) (l .out) (n .line) (n .len) (l .session) (l .w) (n .read))
 none c =
     let h = head (c .before) in
     no-line _ _ _ _ _ _ _ _ _ _ _ _ (h .before .loop .inv) (h .loop-test .taken) (begin h .pre .1) _ (c .before .before .read-on .ensures) (c .if1 .left)
@@ -151,7 +156,8 @@ same-length c = search needs
 
 returns : tie.Need-returns Inv-loop μ-loop
 returns c =
-    let l = c .before .loop in (refl, all-read _ _ _ _ _ _ _ _ _ _ _ _ (l .inv) (c .loop-test .left) (c .before .before .before .before .before .before .pre .1))
+    let l = c .before .loop in
+    (refl, all-read _ _ _ _ _ _ _ _ _ _ _ _ (l .inv) (c .loop-test .left) (c .before .before .before .before .before .before .pre .1))
 
 pub feed-all-spec : {M : Type 1} → statement M
 feed-all-spec =

@@ -17,7 +17,8 @@ not-taken-requires c κs = search needs
 returns : tie.Need-returns
 returns c =
     let a = c .before .before .before .before .args in
-    rw (c .not-taken .ensures) (not-finished (a .state) (a .times .now) (a .sizes .now) (a .flags .now) (a .out .now) (long-no (a .state .len) 1 (length (a .out .now)) (c .before .if1 .taken)))
+    rw (c .not-taken .ensures) (not-finished (a .state) (a .times .now) (a .sizes .now) (a .flags .now) (a .out .now)
+    (long-no (a .state .len) 1 (length (a .out .now)) (c .before .if1 .taken)))
 
 not-taken-requires-2 : tie.Need-not-taken-requires-2
 not-taken-requires-2 c κs = search needs
@@ -26,13 +27,16 @@ returns-2 : tie.Need-returns-2
 returns-2 c =
     let a = c .before .before .before .before .before .args in
     let g : length (a .out .now) / rowWidth < 1 = omega (arith, c .before .if2 .taken) in
-    rw (c .not-taken2 .ensures) (not-finished (a .state) (a .times .now) (a .sizes .now) (a .flags .now) (a .out .now) (room-no (a .state .len) 1 (length (a .out .now)) (c .before .before .if1 .left) g))
+    rw (c .not-taken2 .ensures)
+    (not-finished (a .state) (a .times .now) (a .sizes .now) (a .flags .now) (a .out .now)
+    (room-no (a .state .len) 1 (length (a .out .now)) (c .before .before .if1 .left) g))
 
 returns-3 : tie.Need-returns-3
 returns-3 c =
     let a = c .before .before .before .before .before .args in
     let g : 1 ≤ length (a .out .now) / rowWidth = omega (arith, c .before .if2 .left) in
-    none-finished (a .state) (a .times .now) (a .sizes .now) (a .flags .now) (a .out .now) (room-yes (a .state .len) 1 (length (a .out .now)) (c .before .before .if1 .left) g) (c .if3 .taken)
+    none-finished (a .state) (a .times .now) (a .sizes .now) (a .flags .now) (a .out .now)
+    (room-yes (a .state .len) 1 (length (a .out .now)) (c .before .before .if1 .left) g) (c .if3 .taken)
 
 array-share-prefix-line : tie.Need-array-share-prefix-line
 array-share-prefix-line c =
@@ -66,9 +70,13 @@ same-length c = search needs
 returns-4 : tie.Need-returns-4
 unfolding rowOf
 returns-4 c =
-    let a = c .before .before .before .before .before .before .before .before .before .before .before .before .before .before .before .before .before .before .before .before .args in
-    let r : 1 ≤ length (a .out .now) / rowWidth = omega (arith, c .before .before .before .before .before .before .before .before .before .before .before .before .before .before .before .before .if2 .left) in
-    line-finished (a .state) (a .times .now) (a .sizes .now) (a .flags .now) (a .out .now) (c .before .before .before .before .before .before .before .before .before .answer-line .result) _ _ _ _ (room-yes (a .state .len) 1 (length (a .out .now)) (c .before .before .before .before .before .before .before .before .before .before .before .before .before .before .before .before .before .if1 .left) r) (c .before .before .before .before .before .before .before .before .before .before .before .before .before .before .before .if3 .left) (c .before .before .before .before .before .before .before .before .before .answer-line .ensures) (rw (← c .before .before .before .before .before .before .text .ensures) (c .before .before .before .put-row .ensures))
+    let answered = c .before .before .before .before .before .before .before .before .before in
+    let tested = answered .before .before .before .before .before .before in
+    let a = tested .before .before .before .before .before .args in
+    let r : 1 ≤ length (a .out .now) / rowWidth = omega (arith, tested .before .if2 .left) in
+    line-finished (a .state) (a .times .now) (a .sizes .now) (a .flags .now) (a .out .now) (answered .answer-line .result) _ _ _ _
+    (room-yes (a .state .len) 1 (length (a .out .now)) (tested .before .before .if1 .left) r) (tested .if3 .left) (answered .answer-line .ensures)
+    (rw (← c .before .before .before .before .before .before .text .ensures) (c .before .before .before .put-row .ensures))
 
 pub finish-spec : {M : Type 1} → statement M
 finish-spec =

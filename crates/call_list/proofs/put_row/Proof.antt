@@ -33,7 +33,9 @@ loop-holds c =
       omega arith,
       search needs,
       refl,
-      ap (λ (n : ℕ). take (c .before .before .before .before .before .before .args .w + 2) o ++ drop n o) (add-zero (c .before .before .before .before .before .before .args .w + 2)) ∙ take-append-drop (c .before .before .before .before .before .before .args .w + 2) o,
+      ap (λ (n : ℕ). take (c .before .before .before .before .before .before .args .w + 2) o ++ drop n o)
+          (add-zero (c .before .before .before .before .before .before .args .w + 2))
+          ∙ take-append-drop (c .before .before .before .before .before .before .args .w + 2) o,
     )
 
 shared-slice-read-out : tie.Need-shared-slice-read-out Inv-loop μ-loop
@@ -61,8 +63,14 @@ loop-again c =
     let o = c .before .before .before .before .before .put-column .last .0 in
     let t : length (take (l .k) (a .text .now)) ≡ l .k = length-take-le (l .k) (a .text .now) (omega arith) in
     let n : a .w + 2 + l .k ≡ a .w + 2 + length (take (l .k) (a .text .now)) = rw t in
-    let r : a .w + 2 + l .k < length o = omega (arith, c .before .before .before .before .before .put-column .kept, c .before .before .before .before .before .before .before .before .before .pre .1) in
-    let u : take (l .k + 1) (a .text .now) ≡ take (l .k) (a .text .now) ++ (getD (a .text .now) (l .k) 0 ∷ []) = rw add-one (take-suc (a .text .now) (l .k) 0 (omega arith)) in (
+    let r : a .w + 2 + l .k < length o =
+    omega (
+      arith,
+      c .before .before .before .before .before .put-column .kept,
+      c .before .before .before .before .before .before .before .before .before .pre .1,
+    ) in
+    let u : take (l .k + 1) (a .text .now) ≡ take (l .k) (a .text .now) ++ (getD (a .text .now) (l .k) 0 ∷ []) =
+    rw add-one (take-suc (a .text .now) (l .k) 0 (omega arith)) in (
       omega arith,
       l .inv .1,
       simp length-set (l .inv .2),
@@ -79,8 +87,11 @@ returns c =
     let o = c .before .before .before .before .put-column .last .0 in
     let t : take (l .k) (a .text .now) ≡ a .text .now = take-all (l .k) (a .text .now) (omega arith) in
     let k : a .w + 2 - a .w ≡ 2 = omega arith in
-    let e : o ≡ laid (a .w) (column 2 (a .refusal)) (a .out .now) = c .before .before .before .before .put-column .ensures ∙ ap (λ (n : ℕ). laid (a .w) (column n (a .refusal)) (a .out .now)) k in
-    sym (l .inv .3) ∙ rw (t, e) (laid-twice (a .w) 2 (column 2 (a .refusal)) (a .out .now) (length-column 2 (a .refusal)) (omega (arith, c .before .before .before .before .before .before .before .before .pre .1)) (a .text .now))
+    let e : o ≡ laid (a .w) (column 2 (a .refusal)) (a .out .now) =
+    c .before .before .before .before .put-column .ensures ∙ ap (λ (n : ℕ). laid (a .w) (column n (a .refusal)) (a .out .now)) k in
+    sym (l .inv .3)
+    ∙ rw (t, e) (laid-twice (a .w) 2 (column 2 (a .refusal)) (a .out .now) (length-column 2 (a .refusal))
+    (omega (arith, c .before .before .before .before .before .before .before .before .pre .1)) (a .text .now))
 
 pub put-row-spec : {M : Type 1} → statement M
 put-row-spec =

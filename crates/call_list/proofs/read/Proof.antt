@@ -23,7 +23,10 @@ to-bits-requires c κs = search needs
 
 returns : tie.Need-returns
 unfolding readingOf
-returns c = rw (c .to-bits .ensures, c .before .inherent-loss .ensures, c .before .before .rate-bits .ensures, c .before .before .before .published .ensures, c .before .before .before .before .number .ensures, c .before .before .before .before .before .loss-based-result .ensures)
+returns c =
+    rw (c .to-bits .ensures, c .before .inherent-loss .ensures, c .before .before .rate-bits .ensures)
+    (rw (c .before .before .before .published .ensures, c .before .before .before .before .number .ensures)
+    (rw (c .before .before .before .before .before .loss-based-result .ensures)))
 
 pub read-spec : {M : Type 1} → statement M
 read-spec =

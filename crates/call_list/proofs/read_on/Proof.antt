@@ -28,7 +28,8 @@ add-i c = search needs
 returns : tie.Need-returns Inv-loop μ-loop
 returns c =
     let l = c .before .before .before .loop in
-    sym (l .inv .3 ∙ at-newline (l .line) (l .len) (c .before .before .before .before .args .chunk .now) (l .i) (c .before .before .loop-test .taken) (c .if1 .taken))
+    sym (l .inv .3 ∙ at-newline (l .line) (l .len) (c .before .before .before .before .args .chunk .now) (l .i) (c .before .before .loop-test .taken)
+    (c .if1 .taken))
 
 array-write-line : tie.Need-array-write-line Inv-loop μ-loop
 array-write-line c = search needs
@@ -45,7 +46,8 @@ loop-again c =
       omega arith,
       omega arith,
       simp length-set (l .inv .2),
-      l .inv .3 ∙ at-byte (l .line) (l .len) (c .before .before .before .before .before .args .chunk .now) (l .i) (c .before .before .before .loop-test .taken) (c .before .if1 .left) (c .if2 .taken),
+      l .inv .3 ∙ at-byte (l .line) (l .len) (c .before .before .before .before .before .args .chunk .now) (l .i)
+          (c .before .before .before .loop-test .taken) (c .before .if1 .left) (c .if2 .taken),
     )
 
 loop-less-2 : tie.Need-loop-less-2 Inv-loop μ-loop
@@ -57,7 +59,8 @@ loop-again-2 c =
       omega arith,
       l .inv .1,
       l .inv .2,
-      l .inv .3 ∙ at-full (l .line) (l .len) (c .before .before .before .before .before .args .chunk .now) (l .i) (c .before .before .before .loop-test .taken) (c .before .if1 .left) (c .if2 .left),
+      l .inv .3 ∙ at-full (l .line) (l .len) (c .before .before .before .before .before .args .chunk .now) (l .i)
+          (c .before .before .before .loop-test .taken) (c .before .if1 .left) (c .if2 .left),
     )
 
 returns-2 : tie.Need-returns-2 Inv-loop μ-loop

@@ -27,7 +27,12 @@ unfolding reportOf
 returns c =
     let s = c .before .before .before .before .before .before .before .before in
     let q = s .args .queued in
-    rw (← held-take q (s .args .times .now) (s .pre .0), ← held-take q (s .args .sizes .now) (s .pre .1), ← held-take q (s .args .flags .now) (s .pre .2), ← c .before .before .before .before .held .ensures .0)
+    rw (
+      ← held-take q (s .args .times .now) (s .pre .0),
+      ← held-take q (s .args .sizes .now) (s .pre .1),
+      ← held-take q (s .args .flags .now) (s .pre .2),
+      ← c .before .before .before .before .held .ensures .0,
+    )
     (c .update-bandwidth-estimate .ensures)
 
 pub report-spec : {M : Type 1} → statement M

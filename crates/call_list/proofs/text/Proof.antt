@@ -39,7 +39,10 @@ returns : tie.Need-returns
 unfolding textOf
 returns c =
     let r = c .before .before .before .before .before .before .before .before .before .before .before .before .before .before .args .reading in
-    four-laid _ _ _ _ _ (r .state) (r .published) (r .rate) (r .«inherent_loss») refl (c .before .before .before .before .before .before .before .before .before .before .before .put-column .ensures) (c .before .before .before .before .before .before .before .put-column2 .ensures) (c .before .before .before .before .put-column3 .ensures) (c .before .put-column4 .ensures)
+    four-laid _ _ _ _ _ (r .state) (r .published) (r .rate) (r .«inherent_loss») refl
+    (c .before .before .before .before .before .before .before .before .before .before .before .put-column .ensures)
+    (c .before .before .before .before .before .before .before .put-column2 .ensures) (c .before .before .before .before .put-column3 .ensures)
+    (c .before .put-column4 .ensures)
 
 pub text-spec : {M : Type 1} → statement M
 text-spec =

@@ -12,12 +12,14 @@ called-requires c κs = search needs
 returns : tie.Need-returns
 returns c =
     let a = c .before .before .before .before .before .before .before .before .before .args in
-    rw (c .called .ensures) (loudly (a .session) (a .times .now) (a .sizes .now) (a .flags .now) (a .line) _ _ _ _ (c .before .before .before .before .before .quiet-line .ensures) (c .before .before .before .before .if1 .taken))
+    rw (c .called .ensures) (loudly (a .session) (a .times .now) (a .sizes .now) (a .flags .now) (a .line) _ _ _ _
+    (c .before .before .before .before .before .quiet-line .ensures) (c .before .before .before .before .if1 .taken))
 
 returns-2 : tie.Need-returns-2
 returns-2 c =
     let a = c .before .before .before .before .before .before .before .args in
-    quietly (a .session) (a .times .now) (a .sizes .now) (a .flags .now) (a .line) _ _ _ _ (c .before .before .before .quiet-line .ensures) (c .before .before .if1 .left)
+    quietly (a .session) (a .times .now) (a .sizes .now) (a .flags .now) (a .line) _ _ _ _ (c .before .before .before .quiet-line .ensures)
+    (c .before .before .if1 .left)
 
 pub turn-spec : {M : Type 1} → statement M
 turn-spec = tie.close (tie.spec quiet-line-requires called-requires returns returns-2)

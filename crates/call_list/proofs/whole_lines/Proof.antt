@@ -21,7 +21,8 @@ use Rattle.call_list.proofs.whole_lines.Tie as tie
 abbrev Inv-loop : tie.InvT-loop
 Inv-loop times₀ sizes₀ flags₀ chunk from out₀ written controller₀ reading₀ queued₀ row₀ w₀ i₀ times sizes flags out controller reading queued row w i =
     (from ≤ i) × (written ≤ w) × (row ≡ textOf reading)
-    × At chunk out₀ (runs (here blank 0 (record { controller = controller₀; reading = reading₀; queued = queued₀ }) times₀ sizes₀ flags₀ (take written out₀)) (drop from chunk))
+    × At chunk out₀
+    (runs (here blank 0 (record { controller = controller₀; reading = reading₀; queued = queued₀ }) times₀ sizes₀ flags₀ (take written out₀)) (drop from chunk))
     times sizes flags out blank 0 (record { controller = controller; reading = reading; queued = queued }) w i
 
 abbrev μ-loop : tie.MeasureT-loop
@@ -123,7 +124,8 @@ leaves j =
     let h = j .before .quiet-call .ensures in
     ⊎-elim (λ a. call-loudly _ _ _ _ (call j) _ _ _ _ h _ _ _ (a .0 .taken) (a .4 .result) (a .4 .ensures) (a .10) (a .11 ∙ a .6 .ensures) (a .13))
     (⊎-elim
-    (λ b. call-loudly _ _ _ _ (call j) _ _ _ _ h _ _ _ (b .0 .taken) (b .4 .result) (b .4 .ensures) (b .9) (b .10 ∙ same-is _ _ (sym (b .7 .ensures) ∙ not-false _ (b .8 .left)) ∙ b .6 .ensures) (b .12))
+    (λ b. call-loudly _ _ _ _ (call j) _ _ _ _ h _ _ _ (b .0 .taken) (b .4 .result) (b .4 .ensures) (b .9)
+    (b .10 ∙ same-is _ _ (sym (b .7 .ensures) ∙ not-false _ (b .8 .left)) ∙ b .6 .ensures) (b .12))
     (λ c. call-quietly _ _ _ _ (call j) _ _ _ _ h _ _ _ (c .0 .left) (c .1) (c .2) (c .4)))
     (j .if2 .came)
 
@@ -162,7 +164,9 @@ loop-again c =
     let big = begin (head (stood j)) .pre .2 in
     let k : l .i + width - l .i ≡ width = omega arith in
     let e = sym (stood j .before .may-stand .ensures) ∙ stood j .if1 .taken in
-    let t = ap (λ (x : ℕ). lineOf (take x (drop (l .i) chunk))) (sym k) ∙ sym (j .before .before .before .before .before .before .before .before .read-line .ensures) ∙ j .before .before .before .before .before .before .call .given .1 in (
+    let t = ap (λ (x : ℕ). lineOf (take x (drop (l .i) chunk))) (sym k)
+    ∙ sym (j .before .before .before .before .before .before .before .before .read-line .ensures)
+    ∙ j .before .before .before .before .before .before .call .given .1 in (
       omega (arith, n),
       omega arith,
       text-told j,

@@ -18,14 +18,18 @@ returns-2 c = rw (le-leb _ _ (c .before .before .if1 .left), ← c .before .rate
 
 returns-3 : tie.Need-returns-3
 unfolding finished
-returns-3 c = rw (le-leb _ _ (c .before .before .before .if1 .left), ← c .before .before .rate-refusal .ensures, eq-eqb _ _ (c .before .if2 .left), ne-eqb _ _ (c .if3 .taken))
+returns-3 c =
+    rw (le-leb _ _ (c .before .before .before .if1 .left), ← c .before .before .rate-refusal .ensures, eq-eqb _ _ (c .before .if2 .left))
+    (rw (ne-eqb _ _ (c .if3 .taken)))
 
 update-with-summary-requires : tie.Need-update-with-summary-requires
 update-with-summary-requires c κs = search needs
 
 returns-4 : tie.Need-returns-4
 unfolding finished
-returns-4 c = rw (le-leb _ _ (c .before .before .before .before .if1 .left), ← c .before .before .before .rate-refusal .ensures, eq-eqb _ _ (c .before .before .if2 .left), eq-eqb _ _ (c .before .if3 .left), ← c .update-with-summary .ensures)
+returns-4 c =
+    rw (le-leb _ _ (c .before .before .before .before .if1 .left), ← c .before .before .before .rate-refusal .ensures)
+    (rw (eq-eqb _ _ (c .before .before .if2 .left), eq-eqb _ _ (c .before .if3 .left), ← c .update-with-summary .ensures))
 
 pub finish-spec : {M : Type 1} → statement M
 finish-spec =
