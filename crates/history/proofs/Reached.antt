@@ -20,6 +20,7 @@ use Rattle.bandwidth.specs.declared.Bitrate.{Bitrate}
 use Rattle.bandwidth.specs.declared.RateAnswer.{RateAnswer}
 use Rattle.bandwidth.specs.declared.OptionBitrate.{OptionBitrate}
 use Rattle.bandwidth.specs.declared.OptionBitrate.the-variants.{Some, None}
+use Rattle.rounding.specs.Ratio.{lossCeiling}
 use Rattle.observation.specs.Ratio as Ratio
 use Rattle.observation.specs.Rows as Rows
 use Rattle.observation.specs.Window as Window
@@ -125,7 +126,7 @@ unfolding Rate.minus
 difference-holds a b = either HoldsAnswer (le (b .bps) (a .bps)) _ Rate.refused (sub-fits binary64 (a .bps) (b .bps)) zero-holds
 
 limit-holds : (ratio : Float) → HoldsAnswer (Ratio.instantLimit ratio)
-unfolding Ratio.instantLimit Ratio.highLossLimit Rate.larger
+unfolding lossCeiling Ratio.instantLimit Ratio.highLossLimit Rate.larger
 limit-holds ratio =
     let cap = Config.«bandwidth_cap_at_high_loss_rate» in
     let taken = Rate.times Config.«slope_of_bwe_high_loss_function» ratio in
