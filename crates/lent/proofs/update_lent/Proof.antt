@@ -1,9 +1,7 @@
 -- `update_lent` meets its contract: a walk of its MIR, by hand. The borrow of the controller is opened, the whole struct is copied out,
--- `LossController::update_bandwidth_estimate`
--- is called, the controller that it gave is stored, and the borrow is closed there. No field of the controller is named: the walk goes by the
--- struct's own laws.
--- The other parameters are Copy: what they own is one item, `Rest`, had twice, for the call and for the exit. All that is known of the callee is that it meets
--- its contract.
+-- `LossController::update_bandwidth_estimate` is called, the controller that it gave is stored, and the borrow is closed there. No field of the
+-- controller is named: the walk goes by the struct's own laws. The other parameters are Copy: what they own is one item, `Rest`, had twice, for the
+-- call and for the exit. All that is known of the callee is that it meets its contract.
 -- Assumes nothing.
 use mathlib.Core.Path.{_≡_, refl, _∙_, ap}
 use Prim.Native.Nat.{ℕ, _<_, _^_}
@@ -24,7 +22,6 @@ use types.Kit.{Given, Item, ‵, raw, _⊛_, mean, ⋆, _$_, _∵_, !, qed, by, 
 use types.Kit.{fjoin3, feqI, suffices, frame, await, done}
 use types.Run.{look, look-raw, init, forget, stop, hop, from, load, of-opd, and-then, no-more, assigns, land, returns, enter, alloc1, alloc0, params1}
 use types.Run.{pass1, pass0, free1, free0}
-use types.Part.{whole}
 use types.SemTy.{Body}
 use sound.WpLaws.{FmC, fmOf, WpFn-mono}
 use denote.RattleType.{RattleType, owns}

@@ -1,7 +1,6 @@
--- `update_records` meets its contract: a walk of its MIR, by hand, with a loop over a slice of structs. The slice is looked into once, before the loop, and
--- shut once, after it; a turn takes element i out of the row, copies it whole, puts it back and calls `SummaryAnswer::add`; then `finish` is called.
--- All that is
--- known of the three callees is that each meets its contract. The parameters are Copy: what they own is one item, `Own`, had twice.
+-- `update_records` meets its contract: a walk of its MIR, by hand, with a loop over a slice of structs. The slice is looked into once, before the
+-- loop, and shut once, after it; a turn takes element i out of the row, copies it whole, puts it back and calls `SummaryAnswer::add`; then `finish` is
+-- called. All that is known of the three callees is that each meets its contract. The parameters are Copy: what they own is one item, `Own`, had twice.
 -- Assumes nothing.
 use mathlib.Core.Path.{_≡_, refl, sym, ap, _∙_, subst}
 use Prim.Native.Nat.{ℕ, _+_, _-_, _*_, _≤_, _<_, _^_, zero-le}
