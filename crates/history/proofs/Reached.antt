@@ -175,9 +175,11 @@ updated-taken c h r f =
     let capacity = capacity-holds (Setters.isInAlr c) (c .inputs .«link_capacity_estimate») (i .capacity) in
     let fit = bound-holds b capacity (k .rates .limit .holds) (ceiling-not-negative o h (r .tied) .holds) (i .delay .holds) in
     let rows = rows-sent o (r .observations .sent) in
-    let choice = chosen (e .«current_estimate») b (Rows.rows o .rows) (ratio .value) (k .rates .current f) f (i .delay .above) (i .acknowledged .above) fit rows in
+    let choice = chosen (e .«current_estimate») b (Rows.rows o .rows) (ratio .value) (k .rates .current f) f (i .delay .above)
+    (i .acknowledged .above) fit rows in
     checked-by Taken (Rows.rows o .refusal)
     (λ z. checked-by Taken (ratio .refusal)
-    (λ z. checked-by Taken _ (λ z. not-refused e _ (Report.report c (ratio .value)) (k .steady) (k .rates) f (choice .1) (r .observations .timely)) (λ n. absurd (n (choice .0))))
+    (λ z. checked-by Taken _ (λ z. not-refused e _ (Report.report c (ratio .value)) (k .steady) (k .rates) f (choice .1) (r .observations .timely))
+    (λ n. absurd (n (choice .0))))
     (λ n. absurd (n (ap (λ (a : FloatAnswer). a .refusal) (tied-reported o h (r .tied))))))
     (λ n. absurd (n (rows-taken o h (r .tied))))

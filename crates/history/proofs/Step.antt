@@ -39,7 +39,8 @@ pub record Answered (a : ControllerAnswer) (refusal : ℕ) (h after : History) :
   pub leaves : Reached (a .controller) (cond (not (eqb (a .refusal) 0)) h after)
 
 -- a test that the controller and the history make alike
-alike : (b : Bool) {x y : ControllerAnswer} {m n : ℕ} {h u v : History} → Answered x m h u → (b ≡ false → Answered y n h v) → Answered (cond b x y) (cond b m n) h (cond b u v)
+alike : (b : Bool) {x y : ControllerAnswer} {m n : ℕ} {h u v : History} → Answered x m h u → (b ≡ false → Answered y n h v)
+    → Answered (cond b x y) (cond b m n) h (cond b u v)
 alike true p q = p
 alike false p q = q refl
 
@@ -86,9 +87,17 @@ module _ (c : LossController) (h : History) (r : Reached c h) where
   unfolding switched withAlrStartTime resetObservations withInputs withObservations
   switched-reached start =
       let i = r .inputs in
-      let inputs : SoundInputs (withAlrStartTime c (startOf start) .inputs) = record { delay = i .delay; acknowledged = i .acknowledged; capacity = i .capacity } in
+      let inputs : SoundInputs (withAlrStartTime c (startOf start) .inputs) =
+      record { delay = i .delay; acknowledged = i .acknowledged; capacity = i .capacity } in
       agreed Reached (Bool·beq (isInAlr c) (isSome (startOf start))) (Bool·beq (h .on) (isOn start)) (rw (r .on, starts start))
-      (λ e. record { tied = r .tied; on = same (isInAlr c) (isSome (startOf start)) e ∙ r .on; observations = r .observations; estimator = r .estimator; inputs = inputs })
+      (λ e.
+      record {
+        tied = r .tied;
+        on = same (isInAlr c) (isSome (startOf start)) e ∙ r .on;
+        observations = r .observations;
+        estimator = r .estimator;
+        inputs = inputs;
+      })
       (λ e. record {
         tied = rw (r .tied .count) (reset-tied (h .count) (isOn start));
         on = starts start;
@@ -114,7 +123,18 @@ module _ (c : LossController) (h : History) (r : Reached c h) where
       tested (λ (a : ControllerAnswer). Answered a 0 h after) (completed && Report.hasValidEstimate new)
       (λ e. let u = updated-taken new after j (subst T (sym (both completed (Report.hasValidEstimate new) e .1)) tt) in
       checked-by (λ (a : ControllerAnswer). Answered a 0 h after) (updated .refusal)
-      (λ z. record { told = refl; leaves = record { tied = j .tied; on = j .on; observations = j .observations; estimator = record { rates = u .rates; steady = u .steady }; inputs = j .inputs } })
+      (λ z.
+      record {
+        told = refl;
+        leaves =
+            record {
+              tied = j .tied;
+              on = j .on;
+              observations = j .observations;
+              estimator = record { rates = u .rates; steady = u .steady };
+              inputs = j .inputs;
+            };
+      })
       (λ n. absurd (n (u .refusal))))
       (λ e. record { told = refl; leaves = j })
 
@@ -124,7 +144,8 @@ module _ (c : LossController) (h : History) (r : Reached c h) where
   reported-answered s delay d parted early =
       let o = c .observations in
       let a = Window.added o s in
-      let inputs : SoundInputs (Report.withDelayBasedEstimate c delay .inputs) = record { delay = d; acknowledged = r .inputs .acknowledged; capacity = r .inputs .capacity } in
+      let inputs : SoundInputs (Report.withDelayBasedEstimate c delay .inputs) =
+      record { delay = d; acknowledged = r .inputs .acknowledged; capacity = r .inputs .capacity } in
       alike (eqb (s .«num_packets») 0)
       (record { told = refl; leaves = record { tied = r .tied; on = r .on; observations = r .observations; estimator = r .estimator; inputs = inputs } })
       (λ e. let there = eqb-false (s .«num_packets») 0 e in

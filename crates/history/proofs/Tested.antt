@@ -203,7 +203,8 @@ unfolding meets near under each hasBytes loses judged refusalOf reportRefusal pa
     Setters.rateRefusal Setters.startRefusal Setters.timeRefusal Setters.setBandwidthEstimate Setters.withAlrStartTime Setters.resetObservations
     Setters.setAlrStartTime Report.hasValidEstimate Report.observed Report.withDelayBasedEstimate Report.reported Report.updateBandwidthEstimate
     withObservations withEstimator withInputs published lossBasedResult averageReportedLossRatio columnsRefusal packets packetRefusal addPacket
-    summaryOf updated Ratio.age Ratio.window Ratio.readable Ratio.averageReportedLossRatio lossCeiling Ratio.instantLimit Ratio.instantUpperBound Ratio.validOrMax Ratio.cached
+    summaryOf updated Ratio.age Ratio.window Ratio.readable Ratio.averageReportedLossRatio lossCeiling Ratio.instantLimit Ratio.instantUpperBound
+    Ratio.validOrMax Ratio.cached
     Window.cleared Window.reference Window.completes Window.full Window.observed Window.stored Window.withCeiling Window.withPartial Window.renewed
     Window.completed Window.added atMost minimum signBit Rate.over Rate.smaller Delta.difference Delta.inSeconds Delta.order Delta.rate Time.since
     ordered seconds weight lossRatio add div eq inFloat isNan lt mul ofBits ofInt sub toBits

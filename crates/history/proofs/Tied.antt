@@ -51,7 +51,8 @@ pub record Tied (o : Observations) (h : History) : Type 0 where
 -- ---- a start or a reset
 
 no-ceiling : (n : ℕ) → Ratio.cached (Window.cleared n .«cached_instant_upper_bound») ≡ Ratio.validOrMax (Ratio.instantUpperBound (Window.cleared n) .rate)
-unfolding Window.cleared Ratio.cached Ratio.validOrMax Ratio.instantUpperBound Ratio.averageReportedLossRatio Ratio.readable Ratio.window Ratio.instantLimit lossRatio eq lt ofBits
+unfolding Window.cleared Ratio.cached Ratio.validOrMax Ratio.instantUpperBound Ratio.averageReportedLossRatio Ratio.readable Ratio.window
+    Ratio.instantLimit lossRatio eq lt ofBits
 no-ceiling n = refl
 
 -- cleared observations are tied to a history without pairs, of the same count
@@ -115,7 +116,8 @@ abbrev pub heardTotals : History → PacketResultsSummary → History
 heardTotals h s = withReport h (pairWith h s) (h .packets + s .«num_packets») (heldOr (h .time) (s .«last_send_time»)) (s .«last_send_time»)
 
 module _ (o : Observations) (h : History) (t : Tied o h) where
-  running-tied : (q : PartialObservation) (p : Pair) (packets time : ℕ) → pairOf q ≡ p → q .«num_packets» ≡ packets → Part p → Tied (Window.withPartial o q (Exact time)) (withRunning h p packets time)
+  running-tied : (q : PartialObservation) (p : Pair) (packets time : ℕ) → pairOf q ≡ p → q .«num_packets» ≡ packets → Part p
+      → Tied (Window.withPartial o q (Exact time)) (withRunning h p packets time)
   unfolding Window.withPartial withRunning Ratio.instantUpperBound Ratio.averageReportedLossRatio
   running-tied q p packets time same counted part = record {
     count = t .count;

@@ -99,7 +99,8 @@ module _ (o : Observations) (h : History) (t : Tied o h) where
 
     -- where r is at least 0.06, the ceiling is that of the ratio, within one part in 2^40 of the history's
     pub tied-ceiling : 6 * weighedBytes h ≤ 100 * weighedLost h
-        → (Ratio.cached (o .«cached_instant_upper_bound») ≡ Rate.rate (lossCeiling (Ratio.averageReportedLossRatio o .value))) × Capped (lossCeiling (Ratio.averageReportedLossRatio o .value)) (weighedLost h) (weighedBytes h)
+        → (Ratio.cached (o .«cached_instant_upper_bound») ≡ Rate.rate (lossCeiling (Ratio.averageReportedLossRatio o .value)))
+        × Capped (lossCeiling (Ratio.averageReportedLossRatio o .value)) (weighedLost h) (weighedBytes h)
     unfolding Ratio.instantUpperBound Ratio.validOrMax
     tied-ceiling six =
         let sets = ceiling-any-order read (window h) any-order sound short (aged-some 0 (h .pairs) some) six in
