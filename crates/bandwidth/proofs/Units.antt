@@ -1,5 +1,5 @@
 -- A product of two numbers and the range of a u64, by a division. Assumes nothing.
-use Prim.Native.Nat.{ℕ, _+_, _*_, _/_, _-_, _^_, _<_, _≤_}
+use Prim.Native.Nat.{ℕ, _*_, _/_, _-_, _^_, _<_, _≤_}
 use native.Mathlib.Nat.{le-div-iff-mul-le, div-lt-iff-lt-mul}
 use native.Mathlib.Omega.{arith}
 

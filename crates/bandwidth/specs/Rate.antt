@@ -5,7 +5,7 @@ use lib.Dec.{ltb}
 use lib.IntN.{pos}
 use lib.Ieee.{Float, binary64, ofInt, toSigned, toUnsigned, le, eq}
 use lib.Ieee.Scale.{finite}
-use Rattle.float.specs.Rounded.{_⊕_, _⊖_, _⊗_, _⊘_, bits}
+use Rattle.float.specs.Rounded.{_⊕_, _⊖_, _⊗_, _⊘_, bits, eight}
 use Rattle.float.specs.Rust.{minimum, maximum, ceiling, halfAway}
 use Rattle.float.specs.Answer.{clamped as clampedFloat}
 use Rattle.duration.specs.Seconds.{seconds}
@@ -36,8 +36,8 @@ abbrev pub nearest : ℕ → Bitrate
 nearest n = rate (ofInt binary64 (pos n))
 
 -- a whole rate above 2^64 - 1 bit/s is refused (kbps, mbps, gbps)
-unfoldable pub whole : ℕ → RateAnswer
-whole n = cond (ltb n (2 ^ 64)) (answered (nearest n)) refused
+unfoldable pub wholeRate : ℕ → RateAnswer
+wholeRate n = cond (ltb n (2 ^ 64)) (answered (nearest n)) refused
 
 -- ---- to other types
 
@@ -66,7 +66,7 @@ larger a b = rate (maximum (a .bps) (b .bps))
 
 -- rate × duration: bits / 8, rounded half away from zero, then saturated to i64, NaN to 0; never refused (Mul<Duration>)
 unfoldable pub carried : Bitrate → Duration → DataSize
-carried r d = record { bytes = toSigned 63 (halfAway (r .bps ⊗ seconds d ⊘ bits 0x4020000000000000)) }
+carried r d = record { bytes = toSigned 63 (halfAway (r .bps ⊗ seconds d ⊘ eight)) }
 
 -- rate × factor (Mul<f64>)
 unfoldable pub times : Bitrate → Float → Bitrate

@@ -1,12 +1,12 @@
 -- Sizes: what `DataSize` of bandwidth.rs answers. Definitions only.
-use Prim.Native.Nat.{ℕ, _^_}
+use Prim.Native.Nat.{ℕ}
 use mathlib.Core.Bool.{Bool, cond, _&&_}
 use mathlib.Core.List.{List, foldl}
 use lib.Dec.{eqb}
 use lib.IntN.{ℤ, pos, _+ℤ_, _-ℤ_, _*ℤ_}
 use lib.Signed.{leZ}
-use lib.Ieee.{Float, binary64, ofInt, inFloat, eq}
-use Rattle.float.specs.Rounded.{_⊗_, _⊘_, bits}
+use lib.Ieee.{Float, binary64, ofInt, inFloat}
+use Rattle.float.specs.Rounded.{_⊗_, _⊘_, eight, thousand}
 use Rattle.float.specs.Answer.{answered as answeredFloat, refused as refusedFloat}
 use Rattle.float.specs.declared.FloatAnswer.{FloatAnswer}
 use Rattle.integer.specs.Fitted.{inI64, larger, fitted as fittedInteger, unsigned as unsignedInteger}
@@ -39,13 +39,17 @@ refused = record { size = size (pos 0); refusal = 7 }
 
 -- ---- to other types
 
--- "a size beyond 2^53 in magnitude going to a float" is refused (as_bytes_f64)
+-- "a size beyond 2^53 in magnitude going to a float" is refused: whether z bytes are none
+abbrev pub inFloatRange : ℤ → Bool
+inFloatRange z = inFloat binary64 z
+
+-- as_bytes_f64
 unfoldable pub float : DataSize → FloatAnswer
-float s = cond (inFloat binary64 (s .bytes)) (answeredFloat (ofInt binary64 (s .bytes))) refusedFloat
+float s = cond (inFloatRange (s .bytes)) (answeredFloat (ofInt binary64 (s .bytes))) refusedFloat
 
 -- bytes / 1000.0, refused as `float` is (as_kb)
 unfoldable pub kilobytes : DataSize → FloatAnswer
-kilobytes s = cond (inFloat binary64 (s .bytes)) (answeredFloat (ofInt binary64 (s .bytes) ⊘ bits 0x408F400000000000)) refusedFloat
+kilobytes s = cond (inFloatRange (s .bytes)) (answeredFloat (ofInt binary64 (s .bytes) ⊘ thousand)) refusedFloat
 
 -- a negative size is refused (as_bytes_usize)
 unfoldable pub unsigned : DataSize → UsizeAnswer
@@ -79,12 +83,14 @@ addTo sum z = cond (eqb (sum .refusal) 0) (plus (sum .size) (size z)) sum
 unfoldable pub total : List ℤ → SizeAnswer
 total l = foldl addTo (answered (size (pos 0))) l
 
--- size / duration: a size beyond 2^53 is refused first, a zero duration gives rate zero, and else it is (bytes × 8.0) / seconds (Div<Duration>)
+-- size / seconds: a size beyond 2^53 is refused first, 0.0 seconds give rate zero, and else it is (bytes × 8.0) / seconds
+abbrev pub overSeconds : DataSize → Float → RateAnswer
+overSeconds s x =
+    cond (inFloatRange (s .bytes)) (Rate.answered (Rate.over (Rate.rate (ofInt binary64 (s .bytes) ⊗ eight)) x)) Rate.refused
+
+-- size / duration (Div<Duration>)
 unfoldable pub over : DataSize → Duration → RateAnswer
-over s d =
-    cond (inFloat binary64 (s .bytes))
-    (Rate.answered (cond (eq (seconds d) (bits 0)) Rate.zero (Rate.rate (ofInt binary64 (s .bytes) ⊗ bits 0x4020000000000000 ⊘ seconds d))))
-    Rate.refused
+over s d = overSeconds s (seconds d)
 
 -- ---- order
 

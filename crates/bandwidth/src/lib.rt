@@ -5,7 +5,7 @@ ghost use lib.IntN.{pos, _*ℤ_};
 ghost use lib.Signed.{leZ, ltZ};
 ghost use lib.Ieee.{eq, inf, le, lt};
 ghost use lib.Ieee.Scale.{finite};
-ghost use mathlib.Core.Bool.{true, false, not};
+ghost use mathlib.Core.Bool.{true, false};
 ghost use Rattle.float.specs.Order.{partialOrder};
 ghost use Rattle.integer.specs.Fitted.{fitted, ordered};
 ghost use Rattle.bandwidth.specs.Rate as Rate;
@@ -84,19 +84,19 @@ impl Bitrate {
     }
 
     pub fn kbps(kbps: u64) -> RateAnswer
-        ensures { λ r. ⌜ r ≡ Rate.whole (kbps * 1000) ⌝ }
+        ensures { λ r. ⌜ r ≡ Rate.wholeRate (kbps * 1000) ⌝ }
     {
         in_units(kbps, 1_000)
     }
 
     pub fn mbps(mbps: u64) -> RateAnswer
-        ensures { λ r. ⌜ r ≡ Rate.whole (mbps * 1000000) ⌝ }
+        ensures { λ r. ⌜ r ≡ Rate.wholeRate (mbps * 1000000) ⌝ }
     {
         in_units(mbps, 1_000_000)
     }
 
     pub fn gbps(gbps: u64) -> RateAnswer
-        ensures { λ r. ⌜ r ≡ Rate.whole (gbps * 1000000000) ⌝ }
+        ensures { λ r. ⌜ r ≡ Rate.wholeRate (gbps * 1000000000) ⌝ }
     {
         in_units(gbps, 1_000_000_000)
     }
@@ -270,7 +270,7 @@ impl Bitrate {
 // n units as a rate, where that is a whole number that fits a u64.
 fn in_units(n: u64, unit: u64) -> RateAnswer
     requires { ⌜ 0 < unit ⌝ }
-    ensures { λ r. ⌜ r ≡ Rate.whole (n * unit) ⌝ }
+    ensures { λ r. ⌜ r ≡ Rate.wholeRate (n * unit) ⌝ }
 {
     if n <= u64::MAX / unit {
         let rate = Bitrate::bps(n * unit);
@@ -381,12 +381,18 @@ impl DataSize {
     pub fn div_duration(self, rhs: Duration) -> RateAnswer
         ensures { λ r. ⌜ r ≡ Size.over self rhs ⌝ }
     {
+        self.over_seconds(rhs.as_secs_f64())
+    }
+
+    // What Div<Duration> and Div<TimeDelta> share: this size over so many seconds.
+    pub fn over_seconds(self, s: f64) -> RateAnswer
+        ensures { λ r. ⌜ r ≡ Size.overSeconds self s ⌝ }
+    {
         let bytes = self.as_bytes_f64();
         let refusal = bytes.refusal;
         if refusal != 0 {
             return RateAnswer::REFUSED;
         }
-        let s = rhs.as_secs_f64();
         if s == 0.0 {
             return RateAnswer {
                 rate: Bitrate::ZERO,

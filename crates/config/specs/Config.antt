@@ -1,7 +1,8 @@
 -- The settings of the controller, under the names of the Rust's `Config` fields (crate `config`'s constants have the same values). Definitions only.
 use Prim.Native.Nat.{ℕ}
-use lib.Ieee.{Float}
-use Rattle.float.specs.Rounded.{bits}
+use mathlib.Core.Bool.{false}
+use lib.Ieee.{Float, inf}
+use Rattle.float.specs.Rounded.{bits, one, thousand}
 use Rattle.bandwidth.specs.declared.Bitrate.{Bitrate}
 use Rattle.bandwidth.specs.Rate.{rate}
 use Rattle.duration.specs.declared.Duration.{Duration}
@@ -24,7 +25,7 @@ abbrev pub «instant_upper_bound_bandwidth_balance» : Bitrate
 «instant_upper_bound_bandwidth_balance» = rate (bits 0x40F86A0000000000)
 
 abbrev pub «high_loss_rate_threshold» : Float
-«high_loss_rate_threshold» = bits 0x3FF0000000000000
+«high_loss_rate_threshold» = one
 
 -- 1,000,000 bit/s
 abbrev pub «slope_of_bwe_high_loss_function» : Bitrate
@@ -36,7 +37,11 @@ abbrev pub «bandwidth_cap_at_high_loss_rate» : Bitrate
 
 -- 1,000 bit/s
 abbrev pub «min_bitrate» : Bitrate
-«min_bitrate» = rate (bits 0x408F400000000000)
+«min_bitrate» = rate thousand
+
+-- the Rust's `max_bitrate` is Bitrate::INFINITY: no rate is above it
+abbrev pub «max_bitrate» : Bitrate
+«max_bitrate» = rate (inf false)
 
 -- ---- inherent loss
 
@@ -78,14 +83,14 @@ abbrev pub «candidate_factor_up» : Float
 
 -- candidate_factor[1]
 abbrev pub «candidate_factor_same» : Float
-«candidate_factor_same» = bits 0x3FF0000000000000
+«candidate_factor_same» = one
 
 -- candidate_factor[2]
 abbrev pub «candidate_factor_down» : Float
 «candidate_factor_down» = bits 0x3FEE666666666666
 
 abbrev pub «bandwidth_backoff_lower_bound_factor» : Float
-«bandwidth_backoff_lower_bound_factor» = bits 0x3FF0000000000000
+«bandwidth_backoff_lower_bound_factor» = one
 
 abbrev pub «rampup_acceleration_maxout_time» : Duration
 «rampup_acceleration_maxout_time» = record { nanos = 60000000000 }

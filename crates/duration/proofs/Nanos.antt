@@ -45,7 +45,8 @@ tiny-cut N D h =
     let t : 2 ^ 83 * N / D < 2 ^ 52 = div-lt-iff-lt-mul p .1 (omega arith) in
     closest-none (N * nanosPerSecond) D (omega arith) ∙ sym (closest-none (2 ^ 83 * N / D * nanosPerSecond) (2 ^ 83) (omega arith))
 
-cut-same : (m : ℕ) (e : ℤ) → T (fits binary64 (fin false m e)) → closest (m * up e * nanosPerSecond) (down e) ≡ closest (2 ^ 83 * (m * up e) / down e * nanosPerSecond) (2 ^ 83)
+cut-same : (m : ℕ) (e : ℤ) → T (fits binary64 (fin false m e))
+    → closest (m * up e * nanosPerSecond) (down e) ≡ closest (2 ^ 83 * (m * up e) / down e * nanosPerSecond) (2 ^ 83)
 cut-same m (pos k) t = whole-cut (m * 2 ^ k) 1 (2 ^ 83) (lit< tt) refl
 cut-same m (negsuc k) t = go (ltb k 83) refl
   where

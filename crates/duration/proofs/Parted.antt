@@ -15,7 +15,8 @@ use Rattle.float.specs.Rust.{magnitude}
 use Rattle.float.proofs.Exact.{sign-fits}
 use Rattle.float.proofs.Values.{yes, cast-inside}
 use Rattle.float.proofs.Parts.{below-one, less-whole}
-use Rattle.duration.specs.Seconds.{nanosPerSecond, refused, fitted, nearestNanos, fromSeconds, Proper}
+use Rattle.duration.specs.Nanos.{refused, fitted}
+use Rattle.duration.specs.Seconds.{nanosPerSecond, nearestNanos, fromSeconds, Proper}
 use Rattle.duration.proofs.Nearest.{closest-beside}
 
 -- ---- a float that is a / c
@@ -73,7 +74,8 @@ parted (fin s m e) size cast whole t h k z a b =
     let l : N < 18446744074 * D = in-range (fin s m e) h k in
     let i : N / D < 18446744074 = div-lt-iff-lt-mul p .1 l in
     let w : whole ≡ N / D = a ∙ rw z (cast-inside (fin false m e) N D p (refl, refl) (omega arith)) in
-    let v : HasValue (size ⊖ cast) false (N % D) D = rw (z, b, w) (less-whole binary64 (fin false m e) N D (rw sign-fits at (yes t)) p (refl, refl) (omega arith)) in
+    let v : HasValue (size ⊖ cast) false (N % D) D =
+    rw (z, b, w) (less-whole binary64 (fin false m e) N D (rw sign-fits at (yes t)) p (refl, refl) (omega arith)) in
     record {
       whole-small = omega arith;
       rest-proper = proper-value (size ⊖ cast) (N % D) D v (mod-lt N p);

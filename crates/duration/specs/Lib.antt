@@ -1,2 +1,3 @@
+pub mod Nanos
 pub mod Seconds
 mod Examples

@@ -1,11 +1,11 @@
 -- Durations and their seconds as floats. Definitions only.
-use Prim.Native.Nat.{ℕ, _*_, _/_, _%_, _^_, _<_}
+use Prim.Native.Nat.{ℕ, _*_, _/_, _%_, _<_}
 use mathlib.Core.Bool.{true, false, cond}
-use lib.Dec.{ltb}
 use lib.IntN.{pos}
 use lib.Ieee.{Float, nan, inf, fin, binary64, ofInt, up, down, lt}
 use lib.Ieee.Nearest.{closest}
 use Rattle.float.specs.Rounded.{_⊕_, _⊘_, bits}
+use Rattle.duration.specs.Nanos.{refused, fitted}
 use Rattle.duration.specs.declared.Duration.{Duration}
 use Rattle.duration.specs.declared.DurationAnswer.{DurationAnswer}
 
@@ -22,13 +22,6 @@ seconds d =
     ofInt binary64 (pos (d .nanos / nanosPerSecond))
     ⊕ ofInt binary64 (pos (d .nanos % nanosPerSecond)) ⊘ billion
 
-abbrev pub refused : DurationAnswer
-refused = record { duration = record { nanos = 0 }; refusal = 7 }
-
--- n ns, or 0 ns beside the number 7 where n fits no u64
-unfoldable pub fitted : ℕ → DurationAnswer
-fitted n = cond (ltb n (2 ^ 64)) (record { duration = record { nanos = n }; refusal = 0 }) refused
-
 -- the nearest ns of so many seconds, the sign left out: the exact value is rounded once, a tie to the even one
 unfoldable pub nearestNanos : Float → ℕ
 nearestNanos nan = 0
@@ -40,6 +33,8 @@ unfoldable pub fromSeconds : Float → DurationAnswer
 fromSeconds nan = refused
 fromSeconds (inf s) = refused
 fromSeconds (fin s m e) = cond (lt (fin s m e) (bits 0)) refused (fitted (nearestNanos (fin s m e)))
+
+-- ---- what the code's private functions require of a fraction; no answer is defined by it
 
 -- a fraction of one: finite, below 1.0, and with no minus sign
 abbrev pub Proper : Float → Type 0

@@ -2,7 +2,8 @@
 ghost use mathlib.Core.Path.{_≡_};
 ghost use Prim.Native.Nat.{_+_, _*_, _^_, _<_};
 ghost use lib.Ieee.Nearest.{closest};
-ghost use Rattle.duration.specs.Seconds.{nanosPerSecond, seconds, fitted, nearestNanos, fromSeconds, Proper};
+ghost use Rattle.duration.specs.Nanos.{fitted};
+ghost use Rattle.duration.specs.Seconds.{nanosPerSecond, seconds, nearestNanos, fromSeconds, Proper};
 
 pub struct Duration {
     pub nanos: u64,

@@ -14,7 +14,8 @@ use lib.Ieee.Nearest.{closest, closest-mono}
 use lib.Ieee.Order.{kept, drop}
 use Rattle.float.specs.Rounded.{_⊕_, _⊗_, _⊘_, bits}
 use Rattle.float.proofs.Refusal.{accepted}
-use Rattle.duration.specs.Seconds.{nanosPerSecond, billion, seconds, refused, fitted, nearestNanos, fromSeconds}
+use Rattle.duration.specs.Nanos.{refused, fitted}
+use Rattle.duration.specs.Seconds.{nanosPerSecond, billion, seconds, nearestNanos, fromSeconds}
 use Rattle.duration.specs.declared.Duration.{Duration}
 use Rattle.duration.specs.declared.DurationAnswer.{DurationAnswer}
 use Rattle.config.specs.Config.{«hold_duration_factor», «max_hold_duration»}

@@ -12,7 +12,7 @@ use Rattle.float.proofs.Refusal.{either}
 use Rattle.duration.specs.declared.Duration.{Duration}
 use Rattle.bandwidth.specs.declared.Bitrate.{Bitrate}
 use Rattle.bandwidth.specs.declared.RateAnswer.{RateAnswer}
-use Rattle.time.specs.Nanos.{fitted}
+use Rattle.duration.specs.Nanos.{fitted}
 use Rattle.time.specs.Time.{plus}
 use Rattle.time.specs.declared.TimeDelta.the-variants.{Positive}
 use Rattle.time.specs.declared.Timestamp.{Timestamp}

@@ -7,9 +7,9 @@ use lib.Ieee.{binary64, add, div, eq, isNan, le, lt, mul, ofBits, ofInt, toBits}
 use Rattle.float.specs.Rounded.{bits}
 use Rattle.float.specs.Rust.{minimum, maximum}
 use Rattle.integer.specs.Fitted.{ordered}
-use Rattle.duration.specs.Seconds.{seconds, fitted, nearestNanos, fromSeconds}
+use Rattle.duration.specs.Seconds.{seconds, nearestNanos, fromSeconds}
 use Rattle.bandwidth.specs.Rate as Rate
-use Rattle.time.specs.Nanos as Nanos
+use Rattle.duration.specs.Nanos as Nanos
 use Rattle.time.specs.Time as Time
 use Rattle.time.specs.declared.Timestamp.{Timestamp}
 use Rattle.time.specs.declared.Timestamp.the-variants.{DistantPast, Exact, DistantFuture}
@@ -26,7 +26,7 @@ use Rattle.estimator.specs.declared.EstimatorAnswer.{EstimatorAnswer}
 doubled-examples :
     map (λ n. Hold.doubled (record { nanos = n }) .nanos) (300000000 ∷ 1 ∷ 123456789 ∷ 29999999999 ∷ 30000000000 ∷ 18446744073709551615 ∷ []) ≡
     600000000 ∷ 2 ∷ 246913578 ∷ 59999999998 ∷ 60000000000 ∷ 60000000000 ∷ []
-unfolding add div eq le lt mul ofBits ofInt seconds fitted nearestNanos fromSeconds Hold.twice Hold.doubled
+unfolding add div eq le lt mul ofBits ofInt seconds Nanos.fitted nearestNanos fromSeconds Hold.twice Hold.doubled
 doubled-examples = refl
 
 -- a time in ns, DistantPast as 0
@@ -100,7 +100,7 @@ run-examples :
     ∷ (2 ∷ 0x411E848000000000 ∷ 2800000000 ∷ 1200000000 ∷ 0x411E848000000000 ∷ 2200000000 ∷ 2200000000 ∷ 0x4123D62000000000 ∷ [])
     ∷ (0 ∷ 0x412B774000000000 ∷ 0 ∷ 300000000 ∷ 0x7FF0000000000000 ∷ 2200000000 ∷ 2200000000 ∷ 0x4123D62000000000 ∷ [])
     ∷ []
-unfolding add div eq isNan le lt mul ofBits ofInt toBits minimum maximum ordered seconds fitted nearestNanos fromSeconds Rate.larger Rate.smaller Rate.times Rate.plus Nanos.fitted Time.plus Time.order Hold.twice Hold.doubled Hold.entered Window.windowEnd Window.isAboveLimit Window.bounded Window.isOver Window.opened Window.renewed Increase.notIncreasedAboveInherentLoss Increase.isEstimateIncreasingWhenLossLimited Increase.rampupFactor Increase.withinRampup Increase.rampedUp Increase.increaseLimitedDueToLoss Increase.increaseLimited Update.firstRefusal Update.withReductionNoted Update.isInHold Update.held Update.isLimiting Update.newState Update.newHoldInfo Update.withNewState Update.decided Update.updated Update.applied nanos view report started run
+unfolding add div eq isNan le lt mul ofBits ofInt toBits minimum maximum ordered seconds nearestNanos fromSeconds Rate.larger Rate.smaller Rate.times Rate.plus Nanos.fitted Time.plus Time.order Hold.twice Hold.doubled Hold.entered Window.windowEnd Window.isAboveLimit Window.bounded Window.isOver Window.opened Window.renewed Increase.notIncreasedAboveInherentLoss Increase.isEstimateIncreasingWhenLossLimited Increase.rampupFactor Increase.withinRampup Increase.rampedUp Increase.increaseLimitedDueToLoss Increase.increaseLimited Update.firstRefusal Update.withReductionNoted Update.isInHold Update.held Update.isLimiting Update.newState Update.newHoldInfo Update.withNewState Update.decided Update.updated Update.applied nanos view report started run
 run-examples = refl
 
 -- a hold entered at the last instant would end at none: refused, and unchanged, though the rate is a reduction

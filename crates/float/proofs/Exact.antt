@@ -3,7 +3,9 @@
 use mathlib.Core.Path.{_≡_, refl, sym, ap, _∙_}
 use mathlib.Core.Bool.{Bool, true, false, _&&_, cond}
 use Prim.Native.Nat.{ℕ, zero, suc, _+_, _-_, _*_, _%_, _^_, _≤_, _<_}
-use native.Mathlib.Nat.{le-refl, le-trans, le-of-eq, lt-of-not-le, not-le-of-lt, lt-of-lt-of-le, lt-of-le-of-lt, zero-mul, mul-one, one-mul, mul-comm, mul-assoc, mul-left-comm, mul-right-comm, mul-pos, mul-le-mul-right, mul-lt-mul-of-pos-right, lt-of-mul-lt-mul-right, eq-of-mul-eq-mul-right}
+use native.Mathlib.Nat.{le-refl, le-trans, le-of-eq, lt-of-not-le, not-le-of-lt, lt-of-lt-of-le, lt-of-le-of-lt, zero-mul, mul-one, one-mul, mul-comm}
+use native.Mathlib.Nat.{mul-assoc, mul-left-comm, mul-right-comm, mul-pos, mul-le-mul-right, mul-lt-mul-of-pos-right, lt-of-mul-lt-mul-right}
+use native.Mathlib.Nat.{eq-of-mul-eq-mul-right}
 use native.Mathlib.Omega.{arith}
 use lib.Dec.{T, ltb, leb, eqb, ltb→lt, leb→le, eqb→eq, lit<}
 use lib.IntN.{ℤ, pos, negsuc}
@@ -70,7 +72,8 @@ module _ (f : Format) where
       (low f - suc k, one-mul (2 ^ low f) ∙ ap (λ (i : ℕ). 2 ^ i) (sym (back (low f) (suc k) l)) ∙ pow-add 2 (low f - suc k) (suc k))
 
   -- ---- a / c, which is 2 ^ i times a value that fits
-  pub held-exact : (s t : Bool) (m : ℕ) (e : ℤ) (i a c : ℕ) → T (fits f (fin s m e)) → 0 < c → a * down e ≡ 2 ^ i * (m * up e) * c → 2 ^ i * (m * up e) < 2 ^ suc (emax f) * down e
+  pub held-exact : (s t : Bool) (m : ℕ) (e : ℤ) (i a c : ℕ) → T (fits f (fin s m e)) → 0 < c → a * down e ≡ 2 ^ i * (m * up e) * c
+      → 2 ^ i * (m * up e) < 2 ^ suc (emax f) * down e
       → HasValue (round f t a c) t a c
   held-exact s t m e i a c h p v l =
       let k = fits-says s m e h in

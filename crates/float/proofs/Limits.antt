@@ -5,14 +5,16 @@ use mathlib.Core.Bool.{Bool, true, false, not, _||_, true≢false, false≢true}
 use Prim.Native.Nat.{ℕ, _+_, _-_, _*_, _/_, _%_, _^_, _<_, _≤_, min}
 use native.Mathlib.Nat.{le-div-iff-mul-le}
 use native.Mathlib.Omega.{arith}
-use borrow.Author.Tests.{lt-ltb, le-ltb, ltb-false, ltb-true}
-use lib.Dec.{T, eqb, eqb-refl}
+use borrow.Author.Tests.{lt-ltb, le-ltb, le-leb, lt-leb, ltb-false, ltb-true}
+use lib.Dec.{T, eqb, leb, eqb-refl}
 use lib.IntN.{ℤ, pos, negsuc, negℤ}
-use lib.Ieee.{Float, nan, inf, fin, binary64, isNan, lt, le, eq, ne, neg, nanBits, ofBits, toBits, toSigned, toUnsigned, up, down}
-use lib.Ieee.Bits.{nanBits-is, nanBits-above, is-true}
+use lib.Ieee.{Float, nan, inf, fin, binary64, fits, isNan, lt, le, eq, ne, neg, nanBits, ofBits, toBits, toSigned, toUnsigned, up, down}
+use lib.Ieee.Bits.{nanBits-is, nanBits-above, is-true, toBits-lt}
 use lib.Ieee.Fits.{down-pos}
 use lib.Ieee.Scale.{finite}
 use Rattle.float.specs.Rounded.{bits}
+use Rattle.float.specs.Rust.{signBit}
+use Rattle.float.proofs.Exact.{sign-fits}
 
 -- ---- NaN
 
@@ -43,6 +45,16 @@ nan-pattern n h = is-nan _ (sym (nanBits-is binary64 n) ∙ nanBits-above binary
 
 pub no-nan-pattern : (n : ℕ) → n % 2 ^ 63 ≤ 0x7FF0000000000000 → T (not (nanBits binary64 n))
 no-nan-pattern n h = rw (nanBits-above binary64 n, le-ltb _ _ h) tt
+
+-- the highest bit is the sign: a value and its negation differ by that bit alone, and the negation's bits are below 2 ^ 64
+pub sign-of-bits : (x : Float) → T (fits binary64 x) → leb (2 ^ 63) (toBits binary64 x) ≡ signBit x
+unfolding signBit toBits
+sign-of-bits nan h = refl
+sign-of-bits (inf true) h = refl
+sign-of-bits (inf false) h = refl
+sign-of-bits (fin true m e) h = le-leb (2 ^ 63) (toBits binary64 (fin true m e)) (omega arith)
+sign-of-bits (fin false m e) h =
+    lt-leb (2 ^ 63) (toBits binary64 (fin false m e)) (omega (arith, toBits-lt binary64 (fin true m e) (rw (sign-fits binary64 true m e) h)))
 
 -- ---- the infinities
 

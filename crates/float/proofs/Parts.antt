@@ -3,7 +3,9 @@
 use mathlib.Core.Path.{_≡_, sym, ap, _∙_}
 use mathlib.Core.Bool.{true, false, true≢false}
 use Prim.Native.Nat.{ℕ, suc, _+_, _-_, _*_, _/_, _%_, _^_, _≤_, _<_}
-use native.Mathlib.Nat.{le-trans, le-of-eq, le-suc, lt-of-lt-of-le, lt-of-le-of-lt, mul-one, one-mul, add-mul, mul-comm, mul-assoc, mul-left-comm, mul-right-comm, mul-le-mul-right, mul-le-mul-left, mul-lt-mul-of-pos-right, lt-of-mul-lt-mul-right, le-of-mul-le-mul-right, mul-pos, mod-one, mod-le, div-add-mod'}
+use native.Mathlib.Nat.{le-trans, le-of-eq, le-suc, lt-of-lt-of-le, lt-of-le-of-lt, mul-one, one-mul, add-mul, mul-comm, mul-assoc, mul-left-comm}
+use native.Mathlib.Nat.{mul-right-comm, mul-le-mul-right, mul-le-mul-left, mul-lt-mul-of-pos-right, lt-of-mul-lt-mul-right, le-of-mul-le-mul-right}
+use native.Mathlib.Nat.{mul-pos, mod-one, mod-le, div-add-mod'}
 use native.Mathlib.Omega.{arith}
 use borrow.Author.Tests.{le-ltb}
 use lib.Dec.{T, lit<}
@@ -45,7 +47,8 @@ gap N D p d n r c C v h =
 
 module _ (f : Format) where
   -- ---- times a power of two
-  pub times-power : (x : Float) (i a c : ℕ) → T (fits f x) → 0 < c → HasValue x false a c → a < c → i ≤ emax f → HasValue (mul f x (fin false 1 (pos i))) false (2 ^ i * a) c
+  pub times-power : (x : Float) (i a c : ℕ) → T (fits f x) → 0 < c → HasValue x false a c → a < c → i ≤ emax f
+      → HasValue (mul f x (fin false 1 (pos i))) false (2 ^ i * a) c
   unfolding mul
   times-power (fin true m e) i a c t p v h l = absurd (true≢false (v .0))
   times-power (fin false m e) i a c t p v h l =
@@ -60,7 +63,8 @@ module _ (f : Format) where
       (held-exact f false false m e i (2 ^ i * a) c t p x own)
 
   -- ---- less the whole part
-  difference : (m : ℕ) (e : ℤ) (y : Float) (n r c : ℕ) → 0 < c → HasValue y false n 1 → m * up e * c ≡ (n * c + r) * down e → sub f (fin false m e) y ≡ round f false r c
+  difference : (m : ℕ) (e : ℤ) (y : Float) (n r c : ℕ) → 0 < c → HasValue y false n 1 → m * up e * c ≡ (n * c + r) * down e
+      → sub f (fin false m e) y ≡ round f false r c
   unfolding sub add sum neg
   difference m e (fin true q d) n r c p w v = absurd (true≢false (w .0))
   difference m e (fin false q d) n r c p w v =
@@ -91,7 +95,8 @@ module _ (f : Format) where
       let x : q * P * c ≡ r * down e * P = mul-right-comm q P c ∙ ap (λ (z : ℕ). z * P) v in
       round-exact f false r c q (j .0) p small less (rw (j .1, x) (simp (mul-assoc, mul-comm)))
 
-  pub less-whole : (x : Float) (a c : ℕ) → T (fits f x) → 0 < c → HasValue x false a c → a / c ≤ 2 ^ prec f → HasValue (sub f x (ofInt f (pos (a / c)))) false (a % c) c
+  pub less-whole : (x : Float) (a c : ℕ) → T (fits f x) → 0 < c → HasValue x false a c → a / c ≤ 2 ^ prec f
+      → HasValue (sub f x (ofInt f (pos (a / c)))) false (a % c) c
   unfolding ofInt
   less-whole (fin true m e) a c t p v l = absurd (true≢false (v .0))
   less-whole (fin false m e) a c t p v l =

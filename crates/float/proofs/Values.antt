@@ -3,7 +3,9 @@
 use mathlib.Core.Path.{_≡_, refl, sym, ap, _∙_, subst}
 use mathlib.Core.Bool.{Bool, true, false, not, _||_, Bool·beq, true≢false, false≢true}
 use Prim.Native.Nat.{ℕ, _+_, _-_, _*_, _/_, _^_, _<_}
-use native.Mathlib.Nat.{lt-of-lt-of-le, zero-mul, mul-one, one-mul, add-mul, mul-comm, mul-left-comm, mul-right-comm, mul-le-mul-right, mul-lt-mul-of-pos-right, pow-suc, div-lt-iff-lt-mul, div-eq-of-lt-le, div-eq-of-eq-mul-left, lt-div-mul-add, div-mul-le-self, div-div-eq-div-mul, add-div-right}
+use native.Mathlib.Nat.{lt-of-lt-of-le, zero-mul, mul-one, one-mul, add-mul, mul-comm, mul-left-comm, mul-right-comm, mul-le-mul-right}
+use native.Mathlib.Nat.{mul-lt-mul-of-pos-right, pow-suc, div-lt-iff-lt-mul, div-eq-of-lt-le, div-eq-of-eq-mul-left, lt-div-mul-add, div-mul-le-self}
+use native.Mathlib.Nat.{div-div-eq-div-mul, add-div-right}
 use native.Mathlib.Omega.{arith}
 use borrow.Author.Tests.{ltb-true, ltb-false, lt-ltb, le-ltb}
 use lib.Dec.{T, ltb, eqb, eqb→eq, lit<, lit≤}
@@ -15,7 +17,7 @@ use lib.Ieee.Exact.{HasValue}
 use lib.Ieee.Back.{round-whole}
 use lib.Ieee.Nearest.{div-same}
 use Rattle.float.specs.Rounded.{bits, _⊗_}
-use Rattle.float.specs.Rust.{magnitude, whole, ceiling, halfAway}
+use Rattle.float.specs.Rust.{magnitude, nearestWhole, ceiling, halfAway}
 use Rattle.float.proofs.Exact.{neg-round, sign-fits, fits-says, held-exact, whole-again}
 
 pub yes : {b : Bool} → b ≡ true → T b
@@ -175,12 +177,13 @@ lt-whole (fin false a b) n m e v =
     rw x (ltb-scale _ _ _ (down-pos b))
 
 -- whether the whole part is below x
-part-test : (m : ℕ) (e : ℤ) → Small (fin false m e) → lt (ofInt binary64 (pos (part (fin false m e)))) (fin false m e) ≡ ltb (m * up e / down e * down e) (m * up e)
+part-test : (m : ℕ) (e : ℤ) → Small (fin false m e)
+    → lt (ofInt binary64 (pos (part (fin false m e)))) (fin false m e) ≡ ltb (m * up e / down e * down e) (m * up e)
 unfolding ofInt
 part-test m e h =
     let n = m * up e / down e in
     let l : n < 2 ^ 52 = div-lt-iff-lt-mul (down-pos e) .1 h in
-    rw (part-is false m e h) (lt-whole (whole false n) n m e (round-whole binary64 false n (omega arith)))
+    rw (part-is false m e h) (lt-whole (nearestWhole false n) n m e (round-whole binary64 false n (omega arith)))
 
 pub ceil-above : (x : Float) → Small x → T (not (negative x)) → lt (ofInt binary64 (pos (part x))) x ≡ true → ofInt binary64 (pos (part x + 1)) ≡ ceiling x
 unfolding ceiling ofInt
@@ -224,7 +227,8 @@ halves-are s m e t h =
 pub halves-small : (x : Float) (n : ℕ) → fits binary64 x ≡ true → Small x → n ≡ halves x → n < 2 ^ 53
 halves-small (fin s m e) n t h z = rw (z, halves-are s m e t h) (div-lt-iff-lt-mul (down-pos e) .1 (omega arith))
 
-rounded : (s : Bool) (m : ℕ) (e : ℤ) → fits binary64 (fin s m e) ≡ true → Small (fin s m e) → (halves (fin s m e) + 1) / 2 ≡ (2 * (m * up e) + down e) / (2 * down e)
+rounded : (s : Bool) (m : ℕ) (e : ℤ) → fits binary64 (fin s m e) ≡ true → Small (fin s m e)
+    → (halves (fin s m e) + 1) / 2 ≡ (2 * (m * up e) + down e) / (2 * down e)
 rounded s m e t h = rw (halves-are s m e t h) (half-of-part _ _ (down-pos e))
 
 pub round-negative : (x : Float) → fits binary64 x ≡ true → Small x → T (negative x) → neg (ofInt binary64 (pos ((halves x + 1) / 2))) ≡ halfAway x

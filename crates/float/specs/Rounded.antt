@@ -19,3 +19,14 @@ x ⊘ y = div binary64 x y
 -- the float with these 64 bits
 abbrev pub bits : ℕ → Float
 bits n = ofBits binary64 n
+
+-- ---- the numbers that several definitions name
+
+abbrev pub one : Float
+one = bits 0x3FF0000000000000
+
+abbrev pub eight : Float
+eight = bits 0x4020000000000000
+
+abbrev pub thousand : Float
+thousand = bits 0x408F400000000000

@@ -13,9 +13,9 @@ use lib.Ieee.Bits.{is-true}
 use lib.Ieee.Order.{round-mono}
 use lib.Ieee.Positive.{positive, between, le-trans-positive}
 use lib.Ieee.Scale.{finite}
-use Rattle.float.specs.Rounded.{bits, _⊕_}
+use Rattle.float.specs.Rounded.{bits, one, _⊕_}
 use Rattle.float.proofs.Exact.{fits-says}
-use Rattle.logarithm.specs.Ln.{one, logarithm}
+use Rattle.logarithm.specs.Ln.{logarithm}
 use Rattle.rounding.proofs.Operations.{add-is}
 use Rattle.history.proofs.NotNegative.{NotNegative}
 

@@ -14,13 +14,13 @@ use lib.Ieee.Fits.{and-l, and-r, down-pos}
 use lib.Ieee.Order.{round-mono, le-of-values}
 use lib.Ieee.Positive.{num, den, den-pos, first-pos, positive, between, le-trans-positive, sub-anti, value→cross, through}
 use lib.Ieee.Scale.{finite}
-use Rattle.float.specs.Rounded.{bits, _⊖_, _⊘_}
+use Rattle.float.specs.Rounded.{bits, one, _⊖_, _⊘_}
 use Rattle.float.specs.Answer.{clamped}
 use Rattle.float.proofs.Exact.{fits-says, held-exact}
 use Rattle.float.proofs.Refusal.{tested}
 use Rattle.float.proofs.Values.{yes}
 use Rattle.bandwidth.specs.declared.Bitrate.{Bitrate}
-use Rattle.logarithm.specs.Ln.{one, logarithm}
+use Rattle.logarithm.specs.Ln.{logarithm}
 use Rattle.rounding.specs.Plain.{plain}
 use Rattle.rounding.proofs.Operations.{sub-is, div-is, lt-is}
 use Rattle.rounding.proofs.Order.{Under, under-of-not-lt, round-under}

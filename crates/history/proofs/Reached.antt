@@ -5,10 +5,9 @@ use mathlib.Core.Path.{_≡_, refl, ap}
 use mathlib.Core.Bool.{Bool, true, false}
 use mathlib.Core.Option.{Option, none, some}
 use native.Mathlib.Omega.{arith}
-use borrow.Author.Tests.{le-leb}
 use lib.Dec.{T}
 use lib.IntN.{ℤ}
-use lib.Ieee.{Float, nan, inf, fin, binary64, toBits}
+use lib.Ieee.{Float, nan, inf, fin, binary64}
 use lib.Ieee.Bits.{ofBits-fits}
 use lib.Ieee.Fits.{inf-fits}
 use lib.Ieee.Scale.{finite}
@@ -64,8 +63,8 @@ infinite-taken : TakenRate (Rate.rate (inf false))
 infinite-taken = record { holds = inf-fits binary64 false; above = λ f. absurd f }
 
 sign-set : (m : ℕ) (e : ℤ) → signBit (fin true m e) ≡ true
-unfolding signBit toBits
-sign-set m e = le-leb (2 ^ 63) (toBits binary64 (fin true m e)) (omega arith)
+unfolding signBit
+sign-set m e = refl
 
 -- what code 2 takes
 by-code-2 : (x : Float) → Holds x → Setters.rateRefusal (Rate.rate x) ≡ 0 → TakenRate (Rate.rate x)

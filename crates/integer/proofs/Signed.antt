@@ -7,7 +7,8 @@ use native.Mathlib.Nat.{le-div-iff-mul-le, div-lt-iff-lt-mul}
 use native.Mathlib.Omega.{arith}
 use borrow.Author.Tests.{lt-ltb, le-ltb, le-leb, ltb-true, leb-true}
 use lib.Dec.{T, ltb, leb·zero, leb·suc-suc, leb·suc-zero}
-use lib.IntN.{ℤ, pos, negsuc, sucℤ, predℤ, suc-pred, negℤ, negℤ-negℤ, natAbs, subℕ, _+ℤ_, _-ℤ_, _*ℤ_, +ℤ-idr, +ℤ-sucℤ, +ℤ-predℤ, +ℤ-negℤ-cancel, -ℤ-one, *ℤ-zero}
+use lib.IntN.{ℤ, pos, negsuc, sucℤ, predℤ, suc-pred, negℤ, negℤ-negℤ, natAbs, subℕ, _+ℤ_, _-ℤ_, _*ℤ_}
+use lib.IntN.{+ℤ-idr, +ℤ-sucℤ, +ℤ-predℤ, +ℤ-negℤ-cancel, -ℤ-one, *ℤ-zero}
 use lib.Signed.{leZ, nonNeg, mag, natAbs-le}
 use mir.Syntax.{w64}
 use mir.Val.{SFits, Fits, toZ, ofZ}

@@ -2,11 +2,10 @@
 use mathlib.Core.Path.{_≡_, refl}
 use mathlib.Core.Bool.{true}
 use lib.Ieee.{Float, le, lt, ofBits, sub}
-use Rattle.float.specs.Rounded.{bits, _⊖_}
+use Rattle.float.specs.Rounded.{bits, one, _⊖_}
 use Rattle.float.specs.Answer.{clamped}
 use Rattle.bandwidth.specs.Rate.{minus, answered, rate}
 use Rattle.bandwidth.specs.declared.Bitrate.{Bitrate}
-use Rattle.logarithm.specs.Ln.{one}
 use Rattle.likelihood.specs.Probability.{least}
 
 pub inherent-taken : (x : Float) → clamped x (bits 0) one .refusal ≡ 0

@@ -4,12 +4,12 @@ use mathlib.Core.Bool.{cond}
 use lib.Dec.{eqb}
 use lib.Ieee.{Float}
 use lib.Ieee.Scale.{finite}
-use Rattle.float.specs.Rounded.{bits, _⊕_, _⊖_, _⊗_, _⊘_}
+use Rattle.float.specs.Rounded.{bits, one, _⊕_, _⊖_, _⊗_, _⊘_}
 use Rattle.float.specs.Rust.{magnitude}
 use Rattle.float.specs.Answer.{answered}
 use Rattle.float.specs.declared.FloatAnswer.{FloatAnswer}
 use Rattle.bandwidth.specs.declared.Bitrate.{Bitrate}
-use Rattle.logarithm.specs.Ln.{one, logarithm}
+use Rattle.logarithm.specs.Ln.{logarithm}
 use Rattle.config.specs.Config.{«threshold_of_high_bandwidth_preference», «bandwidth_preference_smoothing_factor», «higher_bandwidth_bias_factor», «higher_log_bandwidth_bias_factor»}
 
 -- the step f on an answer's float; an answer that is refused stays

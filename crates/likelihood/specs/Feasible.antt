@@ -1,11 +1,10 @@
 -- Which inherent loss is feasible at a rate. Definitions only.
 use mathlib.Core.Bool.{cond}
 use lib.Ieee.{Float, eq}
-use Rattle.float.specs.Rounded.{_⊕_, _⊘_}
+use Rattle.float.specs.Rounded.{one, _⊕_, _⊘_}
 use Rattle.float.specs.Rust.{minimum, maximum}
 use Rattle.bandwidth.specs.Rate.{zero}
 use Rattle.bandwidth.specs.declared.Bitrate.{Bitrate}
-use Rattle.logarithm.specs.Ln.{one}
 use Rattle.config.specs.Config.{«inherent_loss_lower_bound», «inherent_loss_upper_bound_offset», «inherent_loss_upper_bound_bandwidth_balance»}
 use Rattle.likelihood.specs.declared.ChannelParameters.{ChannelParameters}
 

@@ -2,9 +2,8 @@
 use mathlib.Core.Bool.{cond, not, _||_}
 use mathlib.Core.List.{List, foldl}
 use lib.Ieee.{Float, eq, isNan}
-use Rattle.float.specs.Rounded.{bits, _⊕_, _⊖_, _⊗_, _⊘_}
+use Rattle.float.specs.Rounded.{bits, one, _⊕_, _⊖_, _⊗_, _⊘_}
 use Rattle.float.specs.Rust.{signBit}
-use Rattle.logarithm.specs.Ln.{one}
 use Rattle.logarithm.specs.Power.{power}
 use Rattle.config.specs.Config.{«newton_step_size»}
 use Rattle.likelihood.specs.Feasible.{feasible}

@@ -3,18 +3,14 @@ use Prim.Native.Nat.{ℕ}
 use mathlib.Core.Bool.{cond}
 use mathlib.Core.List.{List, foldl}
 use lib.Ieee.{Float}
-use Rattle.float.specs.Rounded.{bits, _⊕_, _⊖_, _⊗_, _⊘_}
+use Rattle.float.specs.Rounded.{bits, one, thousand, _⊕_, _⊖_, _⊗_, _⊘_}
 use Rattle.float.specs.Answer.{answered}
 use Rattle.float.specs.declared.FloatAnswer.{FloatAnswer}
-use Rattle.logarithm.specs.Ln.{one, logarithm}
+use Rattle.logarithm.specs.Ln.{logarithm}
 use Rattle.likelihood.specs.Probability.{rowProbability}
 use Rattle.likelihood.specs.Bias.{onward, bias}
 use Rattle.likelihood.specs.declared.ChannelParameters.{ChannelParameters}
 use Rattle.likelihood.specs.declared.Row.{Row}
-
--- 1000.0
-abbrev pub thousand : Float
-thousand = bits 0x408F400000000000
 
 -- the log-likelihood of a row whose loss probability has these two logarithms, weighted
 abbrev pub logLikelihood : Row → Float → Float → Float

@@ -2,11 +2,10 @@
 use mathlib.Core.Bool.{cond, _&&_}
 use lib.Ieee.{Float, lt}
 use lib.Ieee.Scale.{finite}
-use Rattle.float.specs.Rounded.{bits, _⊕_, _⊖_, _⊗_, _⊘_}
+use Rattle.float.specs.Rounded.{bits, one, _⊕_, _⊖_, _⊗_, _⊘_}
 use Rattle.float.specs.Answer.{clamped}
 use Rattle.bandwidth.specs.Rate.{minus}
 use Rattle.bandwidth.specs.declared.Bitrate.{Bitrate}
-use Rattle.logarithm.specs.Ln.{one}
 use Rattle.likelihood.specs.declared.ChannelParameters.{ChannelParameters}
 use Rattle.likelihood.specs.declared.Row.{Row}
 

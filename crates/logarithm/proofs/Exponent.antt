@@ -34,7 +34,7 @@ difference n k C p = go (ltb n k) refl
         rw (lt-ltb _ _ (mul-lt-mul-of-pos-left l p)) (rounded true k n (suc (k - suc n)) C p (omega arith))
     go false h = rw (le-ltb _ _ (mul-le-mul-left C (ltb-false n k h))) (rounded false n k (n - k) C p refl)
 
-pub whole-difference : (x y : Float) (n k : ℕ) → HasValue x false n 1 → HasValue y false k 1 → x ⊖ y ≡ ofInt binary64 (subℕ n k)
+whole-difference : (x y : Float) (n k : ℕ) → HasValue x false n 1 → HasValue y false k 1 → x ⊖ y ≡ ofInt binary64 (subℕ n k)
 unfolding sub add neg
 whole-difference (fin true m e) y n k v w = absurd (true≢false (v .0))
 whole-difference (fin false m e) (fin true l d) n k v w = absurd (true≢false (w .0))

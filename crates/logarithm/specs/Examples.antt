@@ -5,7 +5,7 @@ use mathlib.Core.Path.{_≡_, refl}
 use mathlib.Core.Bool.{true, false}
 use mathlib.Core.List.{List, [], _∷_, map}
 use lib.Ieee.{Float, binary64, add, div, eq, le, lt, mul, ofBits, ofInt, sub, toBits}
-use Rattle.float.specs.Rounded.{bits, _⊗_}
+use Rattle.float.specs.Rounded.{bits, one, _⊗_}
 use Rattle.logarithm.specs.Ln.{logarithm}
 use Rattle.logarithm.specs.Power.{power, ninetenths, weight}
 
@@ -46,14 +46,14 @@ powers :
     map (λ n. toBits binary64 (power ninetenths n)) (0 ∷ 2 ∷ 14 ∷ 100 ∷ 4294967295 ∷ []) ≡
     0x3FF0000000000000 ∷ 0x3FE9EB851EB851EC ∷ 0x3FCD484471283D50 ∷ 0x3EFBDA056ED49422 ∷ 0 ∷ []
     × power (bits 0xBFF0000000000000) 4294967295 ≡ bits 0xBFF0000000000000
-    × power (bits 0x7FF8000000000000) 0 ≡ bits 0x3FF0000000000000
+    × power (bits 0x7FF8000000000000) 0 ≡ one
     × power (bits 0x4000000000000000) 1024 ≡ bits 0x7FF0000000000000
 unfolding power mul ofBits toBits
 powers = (refl, refl, refl, refl)
 
 -- the near miss: 1 multiplied by 0.9, age times
 repeated : ℕ → Float
-repeated zero = bits 0x3FF0000000000000
+repeated zero = one
 repeated (suc age) = repeated age ⊗ ninetenths
 
 abbrev ages : List ℕ

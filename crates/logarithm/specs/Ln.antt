@@ -3,7 +3,7 @@ use Prim.Native.Nat.{ℕ, _+_, _*_, _/_, _%_, _^_}
 use mathlib.Core.Bool.{cond, _&&_}
 use lib.IntN.{pos, _-ℤ_}
 use lib.Ieee.{Float, binary64, ofInt, toBits, le}
-use Rattle.float.specs.Rounded.{bits, _⊕_, _⊖_, _⊗_, _⊘_}
+use Rattle.float.specs.Rounded.{bits, one, _⊕_, _⊖_, _⊗_, _⊘_}
 use Rattle.float.specs.Answer.{answered}
 use Rattle.float.specs.declared.FloatAnswer.{FloatAnswer}
 
@@ -38,9 +38,6 @@ L7 = bits 0x3FC2F112DF3E5244
 
 abbrev pub half : Float
 half = bits 0x3FE0000000000000
-
-abbrev pub one : Float
-one = bits 0x3FF0000000000000
 
 abbrev pub two : Float
 two = bits 0x4000000000000000

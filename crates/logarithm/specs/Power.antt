@@ -3,7 +3,7 @@ use Prim.Native.Nat.{ℕ, zero, suc, _/_, _%_}
 use mathlib.Core.Bool.{Bool, true, false, cond}
 use lib.Dec.{eqb, ltb}
 use lib.Ieee.{Float}
-use Rattle.float.specs.Rounded.{bits, _⊗_}
+use Rattle.float.specs.Rounded.{bits, one, _⊗_}
 
 -- While n is not 0: if n is odd, answer × base; halve n; if n is not 0, square the base.
 -- `done` says whether n is 0, an argument to match on. `turns` bounds their number; n is enough, since each turn halves n.
@@ -17,7 +17,7 @@ powerSteps (suc turns) false answer base n =
 -- base to the power n: answer 1 at the start
 unfoldable pub power : Float → ℕ → Float
 unfolding powerSteps
-power base n = powerSteps n (eqb n 0) (bits 0x3FF0000000000000) base n
+power base n = powerSteps n (eqb n 0) one base n
 
 abbrev pub ninetenths : Float
 ninetenths = bits 0x3FECCCCCCCCCCCCD

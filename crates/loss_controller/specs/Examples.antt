@@ -27,7 +27,7 @@ use Rattle.estimator.specs.Update as Update
 use Rattle.estimator.specs.Window as Recovery
 use Rattle.time.specs.Delta as Delta
 use Rattle.time.specs.Time as Time
-use Rattle.time.specs.Nanos as Nanos
+use Rattle.duration.specs.Nanos as Nanos
 use Rattle.observation.specs.Ratio as Ratio
 use Rattle.observation.specs.Rows as Rows
 use Rattle.observation.specs.Partial as Partial
@@ -129,5 +129,5 @@ reported c times sizes flags = Report.updateBandwidthEstimate c times sizes flag
 decreasing :
     line (reported (reported told (0 ∷ []) (1200 ∷ []) (0 ∷ [])) (300000000 ∷ 300000001 ∷ []) (60000 ∷ 9000 ∷ []) (0 ∷ 1 ∷ [])) ≡
     2 ∷ 4580551374841200862 ∷ 1 ∷ 4698242737114942079 ∷ []
-unfolding line Bias.adjusted Bias.bias Feasible.upperBound Feasible.feasible Newton.safe Newton.addDerivatives Newton.derivatives Newton.newton Objective.addTerms Objective.objective Probability.congested Probability.probability Ln.logarithmOfBits Ln.logarithm Power.powerSteps Power.power Power.weight Bound.atMost Bound.capacity Bound.inWindow Bound.acceleration Bound.upperBound Candidate.scaled Candidate.above Candidate.bandwidths Candidate.cut Candidate.candidate Candidate.placed Candidate.candidates Choice.judged Choice.better Choice.answered Choice.used Choice.choice Hold.twice Hold.doubled Hold.entered Increase.notIncreasedAboveInherentLoss Increase.isEstimateIncreasingWhenLossLimited Increase.rampupFactor Increase.withinRampup Increase.rampedUp Increase.increaseLimitedDueToLoss Increase.increaseLimited Update.firstRefusal Update.withReductionNoted Update.isInHold Update.held Update.isLimiting Update.newState Update.newHoldInfo Update.withNewState Update.decided Update.updated Update.applied Recovery.windowEnd Recovery.isAboveLimit Recovery.bounded Recovery.isOver Recovery.opened Recovery.renewed Delta.difference Delta.inSeconds Delta.order Delta.rate Delta.larger Delta.plus Time.since Time.plus Time.order Nanos.fitted Ratio.age Ratio.window Ratio.readable Ratio.reported Ratio.instantLimit Ratio.instantUpperBound Ratio.validOrMax Ratio.cached Rows.rowOf Rows.row Rows.rows Window.cleared Window.reference Window.completes Window.full Window.observed Window.stored Window.withCeiling Window.withPartial Window.renewed Window.completed Window.added Partial.updated Rate.over Rate.smaller Rate.larger Rate.times Rate.plus Rate.minus Size.kilobytes Size.float Fitted.ordered Fitted.fitted Fitted.inI64 Seconds.seconds Seconds.nearestNanos Seconds.fromSeconds Seconds.fitted Loss.lossRatio Answer.clamped Report.bounds Report.report Report.updatedEstimator Report.hasValidEstimate Report.observed Report.withDelayBasedEstimate Report.reported Report.updateBandwidthEstimate Setters.rateRefusal Setters.setBandwidthEstimate Setters.setAcknowledgedBitrate columnsRefusal packets packetRefusal addPacket summaryOf withObservations withEstimator withInputs maximum minimum signBit add div eq inFloat isNan le lt mul ofBits ofInt sub toBits Rattle.float.specs.Rust.magnitude
+unfolding line Bias.adjusted Bias.bias Feasible.upperBound Feasible.feasible Newton.safe Newton.addDerivatives Newton.derivatives Newton.newton Objective.addTerms Objective.objective Probability.congested Probability.probability Ln.logarithmOfBits Ln.logarithm Power.powerSteps Power.power Power.weight Bound.atMost Bound.capacity Bound.inWindow Bound.acceleration Bound.upperBound Candidate.scaled Candidate.above Candidate.bandwidths Candidate.cut Candidate.candidate Candidate.placed Candidate.candidates Choice.judged Choice.better Choice.answered Choice.used Choice.choice Hold.twice Hold.doubled Hold.entered Increase.notIncreasedAboveInherentLoss Increase.isEstimateIncreasingWhenLossLimited Increase.rampupFactor Increase.withinRampup Increase.rampedUp Increase.increaseLimitedDueToLoss Increase.increaseLimited Update.firstRefusal Update.withReductionNoted Update.isInHold Update.held Update.isLimiting Update.newState Update.newHoldInfo Update.withNewState Update.decided Update.updated Update.applied Recovery.windowEnd Recovery.isAboveLimit Recovery.bounded Recovery.isOver Recovery.opened Recovery.renewed Delta.difference Delta.inSeconds Delta.order Delta.rate Delta.larger Delta.plus Time.since Time.plus Time.order Nanos.fitted Ratio.age Ratio.window Ratio.readable Ratio.reported Ratio.instantLimit Ratio.instantUpperBound Ratio.validOrMax Ratio.cached Rows.rowOf Rows.row Rows.rows Window.cleared Window.reference Window.completes Window.full Window.observed Window.stored Window.withCeiling Window.withPartial Window.renewed Window.completed Window.added Partial.updated Rate.over Rate.smaller Rate.larger Rate.times Rate.plus Rate.minus Size.kilobytes Size.float Fitted.ordered Fitted.fitted Fitted.inI64 Seconds.seconds Seconds.nearestNanos Seconds.fromSeconds Loss.lossRatio Answer.clamped Report.bounds Report.report Report.updatedEstimator Report.hasValidEstimate Report.observed Report.withDelayBasedEstimate Report.reported Report.updateBandwidthEstimate Setters.rateRefusal Setters.setBandwidthEstimate Setters.setAcknowledgedBitrate columnsRefusal packets packetRefusal addPacket summaryOf withObservations withEstimator withInputs maximum minimum signBit add div eq inFloat isNan le lt mul ofBits ofInt sub toBits Rattle.float.specs.Rust.magnitude
 decreasing = refl

@@ -4,19 +4,18 @@ use mathlib.Core.Bool.{true, false, cond}
 use lib.Dec.{eqb, ltb}
 use lib.IntN.{ℤ, pos, natAbs}
 use lib.Signed.{leZ}
-use lib.Ieee.{Float, binary64, inFloat, inf, neg, ofInt}
-use Rattle.float.specs.Rounded.{_⊗_, bits}
+use lib.Ieee.{Float, inf, neg}
 use Rattle.integer.specs.Fitted.{ordered}
 use Rattle.integer.specs.declared.Ordering.{Ordering}
 use Rattle.integer.specs.declared.Ordering.the-variants.{Less, Equal, Greater}
+use Rattle.duration.specs.Nanos as Nanos
 use Rattle.duration.specs.Seconds.{seconds}
 use Rattle.duration.specs.declared.Duration.{Duration}
-use Rattle.bandwidth.specs.Rate as Rate
+use Rattle.duration.specs.declared.DurationAnswer.{DurationAnswer}
+use Rattle.bandwidth.specs.Size.{overSeconds}
 use Rattle.bandwidth.specs.declared.DataSize.{DataSize}
 use Rattle.bandwidth.specs.declared.RateAnswer.{RateAnswer}
-use Rattle.time.specs.Nanos as Nanos
 use Rattle.time.specs.Order.{isGt}
-use Rattle.time.specs.declared.NanosAnswer.{NanosAnswer}
 use Rattle.time.specs.declared.TimeDelta.{TimeDelta}
 use Rattle.time.specs.declared.TimeDelta.the-variants.{NegativeInfinity, Negative, Positive, PositiveInfinity}
 use Rattle.time.specs.declared.TimeDeltaAnswer.{TimeDeltaAnswer}
@@ -34,12 +33,12 @@ answered d = record { delta = d; refusal = 0 }
 abbrev pub refused : TimeDeltaAnswer
 refused = record { delta = zero; refusal = 7 }
 
--- an answer in ns as one forwards in time, and as one backwards
-abbrev pub positive : NanosAnswer → TimeDeltaAnswer
-positive n = record { delta = Positive (span (n .nanos)); refusal = n .refusal }
+-- a duration as a difference forwards in time, and as one backwards
+abbrev pub positive : DurationAnswer → TimeDeltaAnswer
+positive d = record { delta = Positive (d .duration); refusal = d .refusal }
 
-unfoldable pub negative : NanosAnswer → TimeDeltaAnswer
-negative n = cond (eqb (n .refusal) 0) (answered (Negative (span (n .nanos)))) refused
+unfoldable pub negative : DurationAnswer → TimeDeltaAnswer
+negative d = cond (eqb (d .refusal) 0) (answered (Negative (d .duration))) refused
 
 -- ---- from and to numbers
 
@@ -94,12 +93,9 @@ over (Negative d) n = negative (Nanos.over (d .nanos) n)
 over (Positive d) n = positive (Nanos.over (d .nanos) n)
 over PositiveInfinity n = answered PositiveInfinity
 
--- size / time: a size beyond 2^53 is refused first, 0.0 seconds give rate zero, and else it is (bytes × 8.0) / seconds (Div<TimeDelta> for DataSize)
+-- size / time, as size / duration is (Div<TimeDelta> for DataSize)
 unfoldable pub rate : DataSize → TimeDelta → RateAnswer
-rate s d =
-    cond (inFloat binary64 (s .bytes))
-    (Rate.answered (Rate.over (Rate.rate (ofInt binary64 (s .bytes) ⊗ bits 0x4020000000000000)) (inSeconds d)))
-    Rate.refused
+rate s d = overSeconds s (inSeconds d)
 
 -- ---- order
 

@@ -7,15 +7,17 @@ use lib.Ieee.{add, div, eq, inFloat, mul, neg, ofBits, ofInt}
 use Rattle.float.specs.Rounded.{bits}
 use Rattle.integer.specs.Fitted.{ordered}
 use Rattle.integer.specs.declared.Ordering.the-variants.{Less, Equal, Greater}
+use Rattle.duration.specs.Nanos as Nanos
 use Rattle.duration.specs.Seconds.{seconds}
 use Rattle.bandwidth.specs.Rate as Rate
 use Rattle.bandwidth.specs.Size.{size}
-use Rattle.time.specs.Nanos as Nanos
 use Rattle.time.specs.Delta as Delta
 use Rattle.time.specs.Time as Time
 use Rattle.time.specs.declared.TimeDelta.{TimeDelta}
 use Rattle.time.specs.declared.TimeDelta.the-variants.{NegativeInfinity, Negative, Positive, PositiveInfinity}
 use Rattle.time.specs.declared.TimeDeltaAnswer.{TimeDeltaAnswer}
+use Rattle.time.specs.declared.Timestamp.{Timestamp}
+use Rattle.time.specs.declared.TimestampAnswer.{TimestampAnswer}
 use Rattle.time.specs.declared.Timestamp.the-variants.{DistantPast, Exact, DistantFuture}
 
 abbrev back : ℕ → TimeDelta
@@ -28,6 +30,13 @@ on n = Positive (Delta.span n)
 abbrev kinds : List TimeDelta
 kinds = NegativeInfinity ∷ back 2 ∷ on 2 ∷ PositiveInfinity ∷ []
 
+abbrev times : List Timestamp
+times = DistantPast ∷ Exact 5 ∷ DistantFuture ∷ []
+
+-- a refused time is 0 ns beside the number 7
+abbrev noTime : TimestampAnswer
+noTime = record { time = Exact 0; refusal = 7 }
+
 abbrev all : List TimeDelta → List TimeDeltaAnswer
 all = map Delta.answered
 
@@ -39,6 +48,23 @@ difference-table :
     × map (Delta.minus PositiveInfinity) kinds ≡ all (PositiveInfinity ∷ PositiveInfinity ∷ PositiveInfinity ∷ PositiveInfinity ∷ [])
 unfolding Nanos.fitted Delta.difference Delta.minus Delta.negated Delta.negative Delta.plus
 difference-table = (refl, refl, refl, refl)
+
+-- each kind plus each: the sixteen lines of Rust's Add
+sum-table :
+    map (Delta.plus NegativeInfinity) kinds ≡ all (NegativeInfinity ∷ NegativeInfinity ∷ NegativeInfinity ∷ PositiveInfinity ∷ [])
+    × map (Delta.plus (back 5)) kinds ≡ all (NegativeInfinity ∷ back 7 ∷ back 3 ∷ PositiveInfinity ∷ [])
+    × map (Delta.plus (on 5)) kinds ≡ all (NegativeInfinity ∷ on 3 ∷ on 7 ∷ PositiveInfinity ∷ [])
+    × map (Delta.plus PositiveInfinity) kinds ≡ all (PositiveInfinity ∷ PositiveInfinity ∷ PositiveInfinity ∷ PositiveInfinity ∷ [])
+unfolding Nanos.fitted Delta.difference Delta.negative Delta.plus
+sum-table = (refl, refl, refl, refl)
+
+-- each kind added to a time of each kind
+later-table :
+    map (Time.plus DistantPast) kinds ≡ map Time.answered (DistantPast ∷ DistantPast ∷ DistantPast ∷ DistantFuture ∷ [])
+    × map (Time.plus (Exact 5)) kinds ≡ map Time.answered (DistantPast ∷ Exact 3 ∷ Exact 7 ∷ DistantFuture ∷ [])
+    × map (Time.plus DistantFuture) kinds ≡ map Time.answered (DistantFuture ∷ DistantFuture ∷ DistantFuture ∷ DistantFuture ∷ [])
+unfolding Nanos.fitted Nanos.minus Time.plus
+later-table = (refl, refl, refl)
 
 -- each kind taken from a time of each kind
 earlier-table :
@@ -55,20 +81,53 @@ zero-examples :
 unfolding Nanos.fitted Delta.difference Delta.negative Delta.plus
 zero-examples = (refl, refl)
 
--- the last instant, one past it and one before the first; the longest negative span and one past it
-limit-examples :
-    map (λ n. Time.plus (Exact (2 ^ 64 - 2)) (on n)) (1 ∷ 2 ∷ []) ≡ Time.answered (Exact (2 ^ 64 - 1)) ∷ Time.exact Nanos.refused ∷ []
-    × Time.plus (Exact 0) (back 1) ≡ Time.exact Nanos.refused
-    × map (λ n. Delta.plus (back (2 ^ 64 - 2)) (back n)) (1 ∷ 2 ∷ []) ≡ Delta.answered (back (2 ^ 64 - 1)) ∷ Delta.refused ∷ []
-unfolding Nanos.fitted Nanos.minus Delta.negative Delta.plus Time.plus
-limit-examples = (refl, refl, refl)
+-- a time of each kind minus each: the nine lines of Rust's Sub; of two instants the first may be earlier, the same or later
+since-table :
+    map (Time.since DistantPast) times ≡ PositiveInfinity ∷ NegativeInfinity ∷ NegativeInfinity ∷ []
+    × map (Time.since (Exact 4)) times ≡ PositiveInfinity ∷ back 1 ∷ NegativeInfinity ∷ []
+    × map (Time.since (Exact 5)) times ≡ PositiveInfinity ∷ Delta.zero ∷ NegativeInfinity ∷ []
+    × map (Time.since (Exact 7)) times ≡ PositiveInfinity ∷ on 2 ∷ NegativeInfinity ∷ []
+    × map (Time.since DistantFuture) times ≡ PositiveInfinity ∷ PositiveInfinity ∷ PositiveInfinity ∷ []
+unfolding Delta.difference Time.since
+since-table = (refl, refl, refl, refl, refl)
 
--- seconds: none, one backwards, the most and one more, either way
+abbrev first : Timestamp
+first = Exact 0
+
+abbrev last : Timestamp
+last = Exact (2 ^ 64 - 1)
+
+-- the first instant and the last: what comes to either, and one past it, forwards and backwards
+limit-examples :
+    map (Time.plus last) (on 0 ∷ on 1 ∷ back (2 ^ 64 - 1) ∷ []) ≡ Time.answered last ∷ noTime ∷ Time.answered first ∷ []
+    × map (Time.plus first) (back 0 ∷ back 1 ∷ on (2 ^ 64 - 1) ∷ []) ≡ Time.answered first ∷ noTime ∷ Time.answered last ∷ []
+    × map (Time.minus last) (back 0 ∷ back 1 ∷ on (2 ^ 64 - 1) ∷ []) ≡ Time.answered last ∷ noTime ∷ Time.answered first ∷ []
+    × map (Time.minus first) (on 0 ∷ on 1 ∷ back (2 ^ 64 - 1) ∷ []) ≡ Time.answered first ∷ noTime ∷ Time.answered last ∷ []
+unfolding Nanos.fitted Nanos.minus Delta.negated Time.plus Time.minus
+limit-examples = (refl, refl, refl, refl)
+
+-- the longest span either way, and one past it
+span-examples :
+    map (Delta.plus (on (2 ^ 64 - 2))) (on 1 ∷ on 2 ∷ []) ≡ Delta.answered (on (2 ^ 64 - 1)) ∷ Delta.refused ∷ []
+    × map (Delta.plus (back (2 ^ 64 - 2))) (back 1 ∷ back 2 ∷ []) ≡ Delta.answered (back (2 ^ 64 - 1)) ∷ Delta.refused ∷ []
+    × map (Delta.minus (on (2 ^ 64 - 2))) (back 1 ∷ back 2 ∷ []) ≡ Delta.answered (on (2 ^ 64 - 1)) ∷ Delta.refused ∷ []
+    × map (Delta.minus (back (2 ^ 64 - 2))) (on 1 ∷ on 2 ∷ []) ≡ Delta.answered (back (2 ^ 64 - 1)) ∷ Delta.refused ∷ []
+unfolding Nanos.fitted Delta.difference Delta.negated Delta.negative Delta.plus Delta.minus
+span-examples = (refl, refl, refl, refl)
+
+-- seconds: none, one backwards, the most and one more, either way; i64::MIN
 units-examples :
-    map (λ n. Delta.units n 1000000000) (pos 0 ∷ negsuc 0 ∷ pos 18446744073 ∷ pos 18446744074 ∷ negsuc 18446744073 ∷ []) ≡
-    Delta.answered Delta.zero ∷ Delta.answered (back 1000000000) ∷ Delta.answered (on 18446744073000000000) ∷ Delta.refused ∷ Delta.refused ∷ []
+    map (λ n. Delta.units n 1000000000) (pos 0 ∷ negsuc 0 ∷ pos 18446744073 ∷ pos 18446744074 ∷ negsuc 18446744073 ∷ negsuc (2 ^ 63 - 1) ∷ []) ≡
+    Delta.answered Delta.zero ∷ Delta.answered (back 1000000000) ∷ Delta.answered (on 18446744073000000000) ∷ Delta.refused ∷ Delta.refused ∷ Delta.refused ∷ []
 unfolding Nanos.fitted Delta.negative Delta.units
 units-examples = refl
+
+-- milliseconds: the most backwards and one more, i64::MAX and i64::MIN
+millis-examples :
+    map (λ n. Delta.units n 1000000) (negsuc 18446744073708 ∷ negsuc 18446744073709 ∷ pos (2 ^ 63 - 1) ∷ negsuc (2 ^ 63 - 1) ∷ []) ≡
+    Delta.answered (back 18446744073709000000) ∷ Delta.refused ∷ Delta.refused ∷ Delta.refused ∷ []
+unfolding Nanos.fitted Delta.negative Delta.units
+millis-examples = refl
 
 -- towards zero, so that -1 ns halved is negative zero; by 0 a finite one is refused, an infinite one stays
 over-examples :

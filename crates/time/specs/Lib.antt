@@ -1,4 +1,3 @@
-pub mod Nanos
 pub mod Order
 pub mod Delta
 pub mod Time

@@ -1,13 +1,13 @@
 -- Times: what `Timestamp` of time.rs answers. Definitions only.
-use Prim.Native.Nat.{ℕ, _+_}
+use Prim.Native.Nat.{_+_}
 use mathlib.Core.Bool.{Bool, true, false}
 use lib.IntN.{pos}
 use Rattle.integer.specs.Fitted.{ordered}
 use Rattle.integer.specs.declared.Ordering.{Ordering}
 use Rattle.integer.specs.declared.Ordering.the-variants.{Less, Equal, Greater}
-use Rattle.time.specs.Nanos as Nanos
+use Rattle.duration.specs.Nanos as Nanos
+use Rattle.duration.specs.declared.DurationAnswer.{DurationAnswer}
 use Rattle.time.specs.Delta.{difference, negated}
-use Rattle.time.specs.declared.NanosAnswer.{NanosAnswer}
 use Rattle.time.specs.declared.TimeDelta.{TimeDelta}
 use Rattle.time.specs.declared.TimeDelta.the-variants.{NegativeInfinity, Negative, Positive, PositiveInfinity}
 use Rattle.time.specs.declared.Timestamp.{Timestamp}
@@ -17,9 +17,9 @@ use Rattle.time.specs.declared.TimestampAnswer.{TimestampAnswer}
 abbrev pub answered : Timestamp → TimestampAnswer
 answered t = record { time = t; refusal = 0 }
 
--- an answer in ns as an instant; a refused time is 0 ns
-abbrev pub exact : NanosAnswer → TimestampAnswer
-exact n = record { time = Exact (n .nanos); refusal = n .refusal }
+-- ns as an instant; a refused time is 0 ns
+abbrev pub exact : DurationAnswer → TimestampAnswer
+exact d = record { time = Exact (d .duration .nanos); refusal = d .refusal }
 
 -- is_exact
 abbrev pub isExact : Timestamp → Bool

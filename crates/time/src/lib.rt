@@ -4,14 +4,14 @@ ghost use mathlib.Core.Path.{_≡_};
 ghost use Prim.Native.Nat.{_+_, _*_, _<_};
 ghost use lib.IntN.{pos};
 ghost use Rattle.integer.specs.Fitted.{ordered};
-ghost use Rattle.time.specs.Nanos as Nanos;
+ghost use Rattle.duration.specs.Nanos as Nanos;
 ghost use Rattle.time.specs.Order.{isEq, isLt, isLe, isGt, isGe};
 ghost use Rattle.time.specs.Delta as Delta;
 ghost use Rattle.time.specs.Time as Time;
-use bandwidth::Bitrate;
 use bandwidth::DataSize;
 use bandwidth::RateAnswer;
 use duration::Duration;
+use duration::DurationAnswer;
 use integer::Ordering;
 
 // An instant, or a time before or after all of them.
@@ -47,19 +47,6 @@ pub struct TimestampAnswer {
 pub struct TimeDeltaAnswer {
     pub delta: TimeDelta,
     pub refusal: u8,
-}
-
-// A number of ns, and the number of the refusal: 0 if there is none, and 0 ns beside any other.
-struct NanosAnswer {
-    nanos: u64,
-    refusal: u8,
-}
-
-impl NanosAnswer {
-    const REFUSED: NanosAnswer = NanosAnswer {
-        nanos: 0,
-        refusal: 7,
-    };
 }
 
 impl TimestampAnswer {
@@ -436,16 +423,7 @@ impl TimeDelta {
 pub fn div_time_delta(size: DataSize, rhs: TimeDelta) -> RateAnswer
     ensures { λ r. ⌜ r ≡ Delta.rate size rhs ⌝ }
 {
-    let bytes = size.as_bytes_f64();
-    let refusal = bytes.refusal;
-    if refusal != 0 {
-        return RateAnswer::REFUSED;
-    }
-    let bits = Bitrate::from_f64(bytes.value * 8.0);
-    RateAnswer {
-        rate: bits.div_f64(rhs.as_secs_f64()),
-        refusal: 0,
-    }
+    size.over_seconds(rhs.as_secs_f64())
 }
 
 // n units of so many ns
@@ -477,81 +455,83 @@ fn delta(delta: TimeDelta) -> TimeDeltaAnswer
     TimeDeltaAnswer { delta, refusal: 0 }
 }
 
-// Answers in ns as answers of the other types. 0 ns are Exact(0) and ZERO, but Negative(0) is not.
-fn exact(n: NanosAnswer) -> TimestampAnswer
-    ensures { λ r. ⌜ r ≡ Time.exact n ⌝ }
+// Durations as answers of the other types. 0 ns are Exact(0) and ZERO, but Negative(0) is not.
+fn exact(d: DurationAnswer) -> TimestampAnswer
+    ensures { λ r. ⌜ r ≡ Time.exact d ⌝ }
 {
     TimestampAnswer {
-        time: Timestamp::Exact(n.nanos),
-        refusal: n.refusal,
+        time: Timestamp::Exact(d.duration.nanos),
+        refusal: d.refusal,
     }
 }
 
-fn positive(n: NanosAnswer) -> TimeDeltaAnswer
-    ensures { λ r. ⌜ r ≡ Delta.positive n ⌝ }
+fn positive(d: DurationAnswer) -> TimeDeltaAnswer
+    ensures { λ r. ⌜ r ≡ Delta.positive d ⌝ }
 {
+    let duration = d.duration;
     TimeDeltaAnswer {
-        delta: TimeDelta::Positive(Duration { nanos: n.nanos }),
-        refusal: n.refusal,
+        delta: TimeDelta::Positive(duration),
+        refusal: d.refusal,
     }
 }
 
-fn negative(n: NanosAnswer) -> TimeDeltaAnswer
-    ensures { λ r. ⌜ r ≡ Delta.negative n ⌝ }
+fn negative(d: DurationAnswer) -> TimeDeltaAnswer
+    ensures { λ r. ⌜ r ≡ Delta.negative d ⌝ }
 {
-    let refusal = n.refusal;
+    let refusal = d.refusal;
     if refusal != 0 {
         return TimeDeltaAnswer::REFUSED;
     }
-    delta(TimeDelta::Negative(Duration { nanos: n.nanos }))
+    let duration = d.duration;
+    delta(TimeDelta::Negative(duration))
 }
 
 // u64 arithmetic that refuses with 7 where Rust's would panic.
-fn checked_add(a: u64, b: u64) -> NanosAnswer
+fn checked_add(a: u64, b: u64) -> DurationAnswer
     ensures { λ r. ⌜ r ≡ Nanos.fitted (a + b) ⌝ }
 {
     if a <= u64::MAX - b {
-        return NanosAnswer {
-            nanos: a + b,
+        return DurationAnswer {
+            duration: Duration { nanos: a + b },
             refusal: 0,
         };
     }
-    NanosAnswer::REFUSED
+    DurationAnswer::REFUSED
 }
 
-fn checked_sub(a: u64, b: u64) -> NanosAnswer
+fn checked_sub(a: u64, b: u64) -> DurationAnswer
     ensures { λ r. ⌜ r ≡ Nanos.minus a b ⌝ }
 {
     if b <= a {
-        return NanosAnswer {
-            nanos: a - b,
+        return DurationAnswer {
+            duration: Duration { nanos: a - b },
             refusal: 0,
         };
     }
-    NanosAnswer::REFUSED
+    DurationAnswer::REFUSED
 }
 
-fn checked_mul(a: u64, b: u64) -> NanosAnswer
+fn checked_mul(a: u64, b: u64) -> DurationAnswer
     requires { ⌜ 0 < b ⌝ }
     ensures { λ r. ⌜ r ≡ Nanos.fitted (a * b) ⌝ }
 {
     if a <= u64::MAX / b {
-        return NanosAnswer {
-            nanos: a * b,
+        return DurationAnswer {
+            duration: Duration { nanos: a * b },
             refusal: 0,
         };
     }
-    NanosAnswer::REFUSED
+    DurationAnswer::REFUSED
 }
 
-fn checked_div(a: u64, b: u64) -> NanosAnswer
+fn checked_div(a: u64, b: u64) -> DurationAnswer
     ensures { λ r. ⌜ r ≡ Nanos.over a b ⌝ }
 {
     if b == 0 {
-        return NanosAnswer::REFUSED;
+        return DurationAnswer::REFUSED;
     }
-    NanosAnswer {
-        nanos: a / b,
+    DurationAnswer {
+        duration: Duration { nanos: a / b },
         refusal: 0,
     }
 }

@@ -18,7 +18,9 @@ add-requires c κs = search needs
 
 returns-2 : tie.Need-returns-2
 unfolding addTo
-returns-2 c = rw (c .add .ensures, c .before .bytes .ensures, eq-eqb _ _ (c .before .before .before .if1 .left), field _ (c .before .before .before .before .fits .bytes .sfits))
+returns-2 c =
+    let b = c .before .before .before in
+    rw (c .add .ensures, c .before .bytes .ensures, eq-eqb _ _ (b .if1 .left), field _ (b .before .fits .bytes .sfits))
 
 pub add-to-spec : {M : Type 1} → statement M
 add-to-spec = tie.close (tie.spec returns bytes-requires add-requires returns-2)

@@ -2,7 +2,7 @@
 use borrow.Author.Needs.{needs}
 use borrow.Author.Tests.{lt-ltb, le-ltb}
 use Rattle.bandwidth.proofs.Units.{within, beyond}
-use Rattle.bandwidth.specs.Rate.{whole}
+use Rattle.bandwidth.specs.Rate.{wholeRate}
 use Rattle.bandwidth.proofs.in_units.Statement.{statement}
 use Rattle.bandwidth.proofs.in_units.Tie as tie
 
@@ -16,11 +16,11 @@ bps-requires : tie.Need-bps-requires
 bps-requires c κs = search needs
 
 returns : tie.Need-returns
-unfolding whole
+unfolding wholeRate
 returns c = rw (c .bps .ensures, lt-ltb _ _ (within _ _ (c .before .before .pre) (c .before .if1 .taken)))
 
 returns-2 : tie.Need-returns-2
-unfolding whole
+unfolding wholeRate
 returns-2 c = rw (le-ltb _ _ (beyond _ _ (c .before .pre) (c .if1 .left)))
 
 pub in-units-spec : {M : Type 1} → statement M

@@ -23,7 +23,8 @@ nearest-of-parts-requires c κs =
 returns : tie.Need-returns
 returns c =
     let h = c .before .before .before in
-    let s = split _ _ _ _ (h .before .good .0 .1) (h .before .pre) (h .as-u64 .ensures) (c .before .before .nearest-u64-to-f64 .ensures) (c .before .as-u642 .ensures) in
+    let s = split _ _ _ _ (h .before .good .0 .1) (h .before .pre) (h .as-u64 .ensures) (c .before .before .nearest-u64-to-f64 .ensures)
+    (c .before .as-u642 .ensures) in
     c .nearest-of-parts .ensures ∙ sym (s .nanos)
 
 pub nearest-nanos-spec : {M : Type 1} → statement M

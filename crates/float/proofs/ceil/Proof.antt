@@ -2,7 +2,8 @@
 -- `h` is the place after the test for zero. Assumes nothing.
 use borrow.Author.Needs.{needs}
 use native.Mathlib.Omega.{arith}
-use Rattle.float.proofs.Values.{below-zero, not-below-zero, zero-unbroken, large-unbroken, small, ceiling-same, cast-small, ceil-negative, ceil-above, ceil-level}
+use Rattle.float.proofs.Values.{below-zero, not-below-zero, zero-unbroken, large-unbroken, small, ceiling-same, cast-small, ceil-negative}
+use Rattle.float.proofs.Values.{ceil-above, ceil-level}
 use Rattle.float.proofs.ceil.Statement.{statement}
 use Rattle.float.proofs.ceil.Tie as tie
 
@@ -32,12 +33,14 @@ nearest-u64-to-f64-requires-2 c κs = search needs
 returns-3 : tie.Need-returns-3
 returns-3 c =
     let h = c .before .before .before .before .before in
-    cc (ceil-above (h .before .before .before .args .x) (small _ _ (h .before .before .abs .ensures) (h .before .if1 .taken)) (not-below-zero _ (h .if2 .left) (c .before .before .if3 .left)) (cc))
+    let s = small _ _ (h .before .before .abs .ensures) (h .before .if1 .taken) in
+    cc (ceil-above (h .before .before .before .args .x) s (not-below-zero _ (h .if2 .left) (c .before .before .if3 .left)) (cc))
 
 returns-4 : tie.Need-returns-4
 returns-4 c =
     let h = c .before .before .before .before in
-    cc (ceil-level (h .before .before .before .args .x) (small _ _ (h .before .before .abs .ensures) (h .before .if1 .taken)) (not-below-zero _ (h .if2 .left) (c .before .if3 .left)) (cc))
+    let s = small _ _ (h .before .before .abs .ensures) (h .before .if1 .taken) in
+    cc (ceil-level (h .before .before .before .args .x) s (not-below-zero _ (h .if2 .left) (c .before .if3 .left)) (cc))
 
 returns-5 : tie.Need-returns-5
 returns-5 c = ceiling-same _ (c .before .before .good .0 .1) (large-unbroken _ (c .before .before .good .0 .1) (cc))

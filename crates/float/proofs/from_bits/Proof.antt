@@ -1,6 +1,5 @@
 -- `float::from_bits` meets its contract: the test is the one comparison that tells a NaN's pattern. Assumes nothing.
 use borrow.Author.Needs.{needs}
-use mathlib.Core.Path.{refl}
 use lib.Ieee.{ofBits, div}
 use Rattle.float.proofs.Limits.{nan-pattern, no-nan-pattern}
 use Rattle.float.proofs.from_bits.Statement.{statement}

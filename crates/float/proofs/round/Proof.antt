@@ -2,7 +2,8 @@
 -- `h` is the place after the test for zero. Assumes nothing.
 use borrow.Author.Needs.{needs}
 use native.Mathlib.Omega.{arith}
-use Rattle.float.proofs.Values.{below-zero, not-below-zero, zero-unbroken, large-unbroken, small, halfAway-same, halves-small, round-negative, round-other}
+use Rattle.float.proofs.Values.{below-zero, not-below-zero, zero-unbroken, large-unbroken, small, halfAway-same, halves-small, round-negative}
+use Rattle.float.proofs.Values.{round-other}
 use Rattle.float.proofs.round.Statement.{statement}
 use Rattle.float.proofs.round.Tie as tie
 
@@ -18,7 +19,8 @@ as-u64-requires c κs = search needs
 add-nearest-u64-to-f64 : tie.Need-add-nearest-u64-to-f64
 add-nearest-u64-to-f64 c =
     let h = c .before in
-    omega (arith, halves-small _ (c .as-u64 .result) (h .before .before .before .good .0 .1) (small _ _ (h .before .before .abs .ensures) (h .before .if1 .taken)) (cc))
+    let s = small _ _ (h .before .before .abs .ensures) (h .before .if1 .taken) in
+    omega (arith, halves-small _ (c .as-u64 .result) (h .before .before .before .good .0 .1) s (cc))
 
 nearest-u64-to-f64-requires : tie.Need-nearest-u64-to-f64-requires
 nearest-u64-to-f64-requires c κs = search needs
@@ -26,12 +28,14 @@ nearest-u64-to-f64-requires c κs = search needs
 returns-2 : tie.Need-returns-2
 returns-2 c =
     let h = c .before .before .before in
-    cc (round-negative _ (h .before .before .before .good .0 .1) (small _ _ (h .before .before .abs .ensures) (h .before .if1 .taken)) (below-zero _ (c .if3 .taken)))
+    let s = small _ _ (h .before .before .abs .ensures) (h .before .if1 .taken) in
+    cc (round-negative _ (h .before .before .before .good .0 .1) s (below-zero _ (c .if3 .taken)))
 
 returns-3 : tie.Need-returns-3
 returns-3 c =
     let h = c .before .before .before in
-    cc (round-other _ (h .before .before .before .good .0 .1) (small _ _ (h .before .before .abs .ensures) (h .before .if1 .taken)) (not-below-zero _ (h .if2 .left) (c .if3 .left)))
+    let s = small _ _ (h .before .before .abs .ensures) (h .before .if1 .taken) in
+    cc (round-other _ (h .before .before .before .good .0 .1) s (not-below-zero _ (h .if2 .left) (c .if3 .left)))
 
 returns-4 : tie.Need-returns-4
 returns-4 c = halfAway-same _ (c .before .before .good .0 .1) (large-unbroken _ (c .before .before .good .0 .1) (cc))

@@ -3,7 +3,7 @@ use Prim.Native.Nat.{_+_, _^_}
 use native.Mathlib.Omega.{arith}
 use borrow.Author.Needs.{needs}
 use borrow.Author.Tests.{lt-ltb, le-ltb}
-use Rattle.time.specs.Nanos.{fitted}
+use Rattle.duration.specs.Nanos.{fitted}
 use Rattle.time.proofs.checked_add.Statement.{statement}
 use Rattle.time.proofs.checked_add.Tie as tie
 

@@ -1,7 +1,7 @@
 -- `time::checked_div` meets its contract. Assumes nothing.
 use borrow.Author.Tests.{eq-eqb, ne-eqb}
 use borrow.Author.Needs.{needs}
-use Rattle.time.specs.Nanos.{over}
+use Rattle.duration.specs.Nanos.{over}
 use Rattle.time.proofs.checked_div.Statement.{statement}
 use Rattle.time.proofs.checked_div.Tie as tie
 
@@ -9,12 +9,12 @@ returns : tie.Need-returns
 unfolding over
 returns c = rw (eq-eqb _ _ (c .if1 .taken))
 
-div-t4 : tie.Need-div-t4
-div-t4 c = search needs
+div-t5 : tie.Need-div-t5
+div-t5 c = search needs
 
 returns-2 : tie.Need-returns-2
 unfolding over
 returns-2 c = rw (ne-eqb _ _ (c .if1 .left))
 
 pub checked-div-spec : {M : Type 1} → statement M
-checked-div-spec = tie.close (tie.spec returns div-t4 returns-2)
+checked-div-spec = tie.close (tie.spec returns div-t5 returns-2)

@@ -2,7 +2,7 @@
 use borrow.Author.Needs.{needs}
 use borrow.Author.Tests.{lt-ltb, le-ltb}
 use Rattle.bandwidth.proofs.Units.{within, beyond}
-use Rattle.time.specs.Nanos.{fitted}
+use Rattle.duration.specs.Nanos.{fitted}
 use Rattle.time.proofs.checked_mul.Statement.{statement}
 use Rattle.time.proofs.checked_mul.Tie as tie
 

@@ -1,6 +1,6 @@
 -- `time::checked_sub` meets its contract. Assumes nothing.
 use borrow.Author.Tests.{le-leb, lt-leb}
-use Rattle.time.specs.Nanos.{minus}
+use Rattle.duration.specs.Nanos.{minus}
 use Rattle.time.proofs.checked_sub.Statement.{statement}
 use Rattle.time.proofs.checked_sub.Tie as tie
 

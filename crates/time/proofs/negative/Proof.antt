@@ -14,7 +14,7 @@ delta-requires c κs = search needs
 
 returns-2 : tie.Need-returns-2
 unfolding negative
-returns-2 c = rw (eq-eqb _ _ (c .before .if1 .left), ← c .delta .ensures)
+returns-2 c = rw (eq-eqb _ _ (c .before .before .if1 .left), ← c .delta .ensures)
 
 pub negative-spec : {M : Type 1} → statement M
 negative-spec = tie.close (tie.spec returns delta-requires returns-2)

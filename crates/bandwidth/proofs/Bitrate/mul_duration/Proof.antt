@@ -19,7 +19,9 @@ bytes-requires c κs = search needs
 
 returns : tie.Need-returns
 unfolding carried
-returns c = rw (← c .before .before .before .before .as-secs-f64 .ensures, ← c .before .before .round .ensures, c .bytes .ensures, field (c .before .as-i64 .result) (c .before .as-i64 .ok), c .before .as-i64 .ensures)
+returns c =
+    let b = c .before .before in let i = c .before .as-i64 in
+    rw (← b .before .before .as-secs-f64 .ensures, ← b .round .ensures, c .bytes .ensures, field (i .result) (i .ok), i .ensures)
 
 pub mul-duration-spec : {M : Type 1} → statement M
 mul-duration-spec = tie.close (tie.spec as-secs-f64-requires round-requires as-i64-requires bytes-requires returns)

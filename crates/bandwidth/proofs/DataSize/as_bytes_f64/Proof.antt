@@ -1,6 +1,4 @@
 -- `DataSize::as_bytes_f64` meets its contract: the two tests are the library's `inFloat`. Assumes nothing.
-use borrow.Author.Needs.{needs}
-use mathlib.Core.Path.{sym}
 use Rattle.bandwidth.proofs.Field.{field}
 use Rattle.bandwidth.proofs.Exact.{exact, too-low, too-high}
 use Rattle.bandwidth.specs.Size.{float}
@@ -8,15 +6,21 @@ use Rattle.bandwidth.proofs.DataSize.as_bytes_f64.Statement.{statement}
 use Rattle.bandwidth.proofs.DataSize.as_bytes_f64.Tie as tie
 
 int-to-float-t5 : tie.Need-int-to-float-t5
-int-to-float-t5 c = rw (field _ (c .before .before .before .struct-told .given .0 .1), exact _ (rw (field _ (c .before .before .before .struct-told .given .0 .1)) at (c .before .before .if1 .taken)) (rw (field _ (c .before .before .before .struct-told .given .0 .1)) at (c .before .if2 .taken))) tt
+int-to-float-t5 c =
+    let b = c .before .before .before in let f = field (b .before .args .self .bytes) (b .struct-told .given .0 .1) in
+    rw (f, exact _ (rw f at (c .before .before .if1 .taken)) (rw f at (c .before .if2 .taken))) tt
 
 returns : tie.Need-returns
 unfolding float
-returns c = rw (field _ (c .before .before .before .struct-told .given .0 .1), exact _ (rw (field _ (c .before .before .before .struct-told .given .0 .1)) at (c .before .before .if1 .taken)) (rw (field _ (c .before .before .before .struct-told .given .0 .1)) at (c .before .if2 .taken)))
+returns c =
+    let b = c .before .before .before in let f = field (b .before .args .self .bytes) (b .struct-told .given .0 .1) in
+    rw (f, exact _ (rw f at (c .before .before .if1 .taken)) (rw f at (c .before .if2 .taken)))
 
 returns-2 : tie.Need-returns-2
 unfolding float
-returns-2 c = rw (too-low _ (rw (field _ (c .before .before .struct-told .given .0 .1)) at (c .before .if1 .taken)) (rw (field _ (c .before .before .struct-told .given .0 .1)) at (c .if2 .left)))
+returns-2 c =
+    let b = c .before .before in let f = field (b .before .args .self .bytes) (b .struct-told .given .0 .1) in
+    rw (too-low _ (rw f at (c .before .if1 .taken)) (rw f at (c .if2 .left)))
 
 returns-3 : tie.Need-returns-3
 unfolding float

@@ -15,7 +15,7 @@ sized-requires c κs = search needs
 
 returns : tie.Need-returns
 unfolding fitted timesUnsigned
-returns c = rw (c .sized .ensures, c .before .before .from-u64 .ensures, no-factor _ (rw (c .before .before .from-u64 .ensures) at (c .before .if1 .taken)))
+returns c = let f = c .before .before .from-u64 .ensures in rw (c .sized .ensures, f, no-factor _ (rw f at (c .before .if1 .taken)))
 
 checked-mul-requires : tie.Need-checked-mul-requires
 checked-mul-requires c κs = search needs
@@ -25,9 +25,10 @@ sized-requires-2 c κs = search needs
 
 returns-2 : tie.Need-returns-2
 unfolding fitted timesUnsigned
-returns-2 c = let b = c .before .before in
-    let f = b .before .before .before .from-u64 .ensures in
-    rw (c .sized2 .ensures, c .before .checked-mul .ensures, field _ (b .before .struct-told .given .0 .1), field _ (b .struct-told2 .given .0 .1), f, factor _ (rw f at (b .before .before .if1 .left)))
+returns-2 c =
+    let b = c .before .before in let f = b .before .before .before .from-u64 .ensures in
+    rw (c .sized2 .ensures, c .before .checked-mul .ensures, field _ (b .before .struct-told .given .0 .1), field _ (b .struct-told2 .given .0 .1))
+    (rw (f, factor _ (rw f at (b .before .before .if1 .left))))
 
 pub mul-u64-spec : {M : Type 1} → statement M
 mul-u64-spec = tie.close (tie.spec from-u64-requires sized-requires returns checked-mul-requires sized-requires-2 returns-2)

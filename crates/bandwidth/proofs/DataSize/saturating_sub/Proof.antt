@@ -13,8 +13,10 @@ max-requires c κs = search needs
 
 returns : tie.Need-returns
 unfolding minus saturatingMinus
-returns c = let b = c .before .before .before in
-    rw (field (c .max .result) (c .max .ok), c .max .ensures, field _ (c .before .struct-told3 .given .0 .1), c .before .before .checked-sub .ensures, field _ (b .before .struct-told .given .0 .1), field _ (b .struct-told2 .given .0 .1))
+returns c =
+    let m = c .max in let b = c .before .before .before in
+    rw (field (m .result) (m .ok), m .ensures, field _ (c .before .struct-told3 .given .0 .1), c .before .before .checked-sub .ensures)
+    (rw (field _ (b .before .struct-told .given .0 .1), field _ (b .struct-told2 .given .0 .1)))
 
 pub saturating-sub-spec : {M : Type 1} → statement M
 saturating-sub-spec = tie.close (tie.spec checked-sub-requires max-requires returns)

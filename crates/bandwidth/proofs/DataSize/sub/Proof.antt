@@ -13,7 +13,9 @@ sized-requires c κs = search needs
 
 returns : tie.Need-returns
 unfolding minus
-returns c = rw (c .sized .ensures, c .before .checked-sub .ensures, field _ (c .before .before .before .struct-told .given .0 .1), field _ (c .before .before .struct-told2 .given .0 .1))
+returns c =
+    let b = c .before .before in
+    rw (c .sized .ensures, c .before .checked-sub .ensures, field _ (b .before .struct-told .given .0 .1), field _ (b .struct-told2 .given .0 .1))
 
 pub sub-spec : {M : Type 1} → statement M
 sub-spec = tie.close (tie.spec checked-sub-requires sized-requires returns)

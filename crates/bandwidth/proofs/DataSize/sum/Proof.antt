@@ -40,7 +40,11 @@ loop-less c = search needs
 
 loop-again : tie.Need-loop-again Inv-loop μ-loop
 loop-again c =
-    (search needs, fold-again addTo _ _ _ _ _ (pos 0) (c .before .before .loop-test .taken) (c .add-to .ensures ∙ ap (addTo _) (field _ (c .before .add-to-arg .given))) (c .before .before .before .loop .inv .1))
+    let b = c .before .before in (
+      search needs,
+      fold-again addTo _ _ _ _ _ (pos 0) (b .loop-test .taken) (c .add-to .ensures ∙ ap (addTo _) (field _ (c .before .add-to-arg .given)))
+          (b .before .loop .inv .1),
+    )
 
 returns : tie.Need-returns Inv-loop μ-loop
 returns c = fold-end addTo _ _ _ _ (c .loop-test .left) (c .before .loop .inv .1)

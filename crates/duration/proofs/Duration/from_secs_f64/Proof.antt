@@ -1,4 +1,5 @@
--- `Duration::from_secs_f64` meets its contract: how it parts the seconds is the law `parted`. `a` is the place after `abs`, `h` the one after the tests. Assumes nothing.
+-- `Duration::from_secs_f64` meets its contract: how it parts the seconds is the law `parted`. `a` is the place after `abs`, `h` the one after the
+-- tests. Assumes nothing.
 use mathlib.Core.Path.{sym, _∙_}
 use borrow.Author.Needs.{needs}
 use Rattle.duration.proofs.Parted.{parted, negative-refused, too-long-refused}
@@ -21,14 +22,16 @@ of-parts-requires : tie.Need-of-parts-requires
 of-parts-requires c κs =
     let a = c .before .before in
     let h = a .before in
-    let p = parted _ _ _ _ (h .before .before .good .0 .1) (h .before .if1 .left) (h .if2 .taken) (a .abs .ensures) (c .before .as-u64 .ensures) (c .nearest-u64-to-f64 .ensures) in
+    let p = parted _ _ _ _ (h .before .before .good .0 .1) (h .before .if1 .left) (h .if2 .taken) (a .abs .ensures) (c .before .as-u64 .ensures)
+    (c .nearest-u64-to-f64 .ensures) in
     (p .whole-small, p .rest-proper)
 
 returns-2 : tie.Need-returns-2
 returns-2 c =
     let a = c .before .before .before in
     let h = a .before in
-    let p = parted _ _ _ _ (h .before .before .good .0 .1) (h .before .if1 .left) (h .if2 .taken) (a .abs .ensures) (c .before .before .as-u64 .ensures) (c .before .nearest-u64-to-f64 .ensures) in
+    let p = parted _ _ _ _ (h .before .before .good .0 .1) (h .before .if1 .left) (h .if2 .taken) (a .abs .ensures)
+    (c .before .before .as-u64 .ensures) (c .before .nearest-u64-to-f64 .ensures) in
     c .of-parts .ensures ∙ sym (p .both)
 
 returns-3 : tie.Need-returns-3

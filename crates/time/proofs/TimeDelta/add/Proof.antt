@@ -39,11 +39,15 @@ add-spec =
     (λ c. rw (c .before .before .enum-told .given .1, c .enum-told4 .given .1))
     (λ c. rw (c .before .before .enum-told .given .1, c .enum-told5 .given .1))
     (λ c. rw (c .before .before .before .self .given .1, c .enum-told6 .given .1))
-    (λ c. rw (c .before .before .before .before .before .before .self .given .1, c .before .before .before .rhs .given .1, ← c .before .checked-add .ensures, ← c .negative .ensures))
-    (λ c. rw (c .before .before .before .before .before .before .self .given .1, c .before .before .before .rhs2 .given .1, ← c .before .difference .ensures, ← c .delta .ensures))
+    (λ c. let b = c .before .before .before in
+    rw (b .before .before .before .self .given .1, b .rhs .given .1, ← c .before .checked-add .ensures, ← c .negative .ensures))
+    (λ c. let b = c .before .before .before in
+    rw (b .before .before .before .self .given .1, b .rhs2 .given .1, ← c .before .difference .ensures, ← c .delta .ensures))
     (λ c. rw (c .before .before .before .self .given .1, c .enum-told7 .given .1))
     (λ c. rw (c .before .before .before .self2 .given .1, c .enum-told8 .given .1))
-    (λ c. rw (c .before .before .before .before .before .before .self2 .given .1, c .before .before .before .rhs3 .given .1, ← c .before .difference2 .ensures, ← c .delta2 .ensures))
-    (λ c. rw (c .before .before .before .before .before .before .self2 .given .1, c .before .before .before .rhs4 .given .1, ← c .before .checked-add2 .ensures, ← c .positive .ensures))
+    (λ c. let b = c .before .before .before in
+    rw (b .before .before .before .self2 .given .1, b .rhs3 .given .1, ← c .before .difference2 .ensures, ← c .delta2 .ensures))
+    (λ c. let b = c .before .before .before in
+    rw (b .before .before .before .self2 .given .1, b .rhs4 .given .1, ← c .before .checked-add2 .ensures, ← c .positive .ensures))
     (λ c. rw (c .before .before .before .self2 .given .1, c .enum-told9 .given .1))
     (λ c. rw (c .enum-told10 .given .1)))

@@ -30,7 +30,9 @@ add-delta-spec =
     (λ c. rw (c .before .before .enum-told .given .1, c .enum-told4 .given .1))
     (λ c. rw (c .before .before .enum-told .given .1, c .enum-told5 .given .1))
     (λ c. rw (c .before .before .before .self .given .1, c .enum-told6 .given .1))
-    (λ c. rw (c .before .before .before .before .before .before .self .given .1, c .before .before .before .rhs .given .1, ← c .before .checked-sub .ensures, ← c .exact .ensures))
-    (λ c. rw (c .before .before .before .before .before .before .self .given .1, c .before .before .before .rhs2 .given .1, ← c .before .checked-add .ensures, ← c .exact2 .ensures))
+    (λ c. let b = c .before .before .before in
+    rw (b .before .before .before .self .given .1, b .rhs .given .1, ← c .before .checked-sub .ensures, ← c .exact .ensures))
+    (λ c. let b = c .before .before .before in
+    rw (b .before .before .before .self .given .1, b .rhs2 .given .1, ← c .before .checked-add .ensures, ← c .exact2 .ensures))
     (λ c. rw (c .before .before .before .self .given .1, c .enum-told7 .given .1))
     (λ c. rw (c .enum-told8 .given .1)))
