@@ -6,6 +6,7 @@ use mathlib.Core.List.{List}
 use mathlib.Core.Option.{Option, none, some}
 use borrow.Author.Tests.{eqb-true, eqb-false, ne-eqb}
 use lib.Dec.{T, eqb, ltb}
+use Rattle.float.specs.Answer.{firstRefusal}
 use Rattle.float.proofs.Both.{both}
 use Rattle.float.proofs.Refusal.{agreed, either, tested, checked as checked-by}
 use Rattle.bandwidth.specs.declared.Bitrate.{Bitrate}
@@ -23,7 +24,7 @@ use Rattle.loss_controller.specs.declared.LossController.{LossController}
 use Rattle.loss_controller.specs.declared.ControllerAnswer.{ControllerAnswer}
 use Rattle.history.specs.Calls.{Call, estimate, acknowledged, alr, capacity, report, read}
 use Rattle.history.specs.History.{Pair, History, isOn, switched, added, completed, withRunning, withReport, heard, fed, after}
-use Rattle.history.specs.Refusals.{first, stateRefusal, reportRefusal, refusalOf}
+use Rattle.history.specs.Refusals.{stateRefusal, reportRefusal, refusalOf}
 use Rattle.history.specs.Run.{capacityOf, startOf, step, next, toldOf, left, told}
 use Rattle.history.proofs.Sums.{summed, refusal-of-packets}
 use Rattle.history.proofs.Tied.{reset-tied, heardTotals, added-tied}
@@ -51,7 +52,7 @@ module _ (c : LossController) (h : History) (r : Reached c h) where
 
   -- and a test for one
   checked-answered : (refusal : ℕ) (a : ControllerAnswer) (later : ℕ) (after : History)
-      → (refusal ≡ 0 → Answered a later h after) → Answered (checked c refusal a) (first refusal later) h after
+      → (refusal ≡ 0 → Answered a later h after) → Answered (checked c refusal a) (firstRefusal refusal later) h after
   checked-answered refusal a later after taken = go (eqb refusal 0) refl
     where
       go : (b : Bool) → eqb refusal 0 ≡ b → Answered (cond b a (refused c refusal)) (cond b later refusal) h after

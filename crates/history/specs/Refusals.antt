@@ -6,6 +6,7 @@ use mathlib.Core.Bool.{Bool, cond, _&&_, _||_}
 use mathlib.Core.List.{List, [], _∷_}
 use lib.Dec.{eqb, leb, ltb}
 use lib.ListN.{length}
+use Rattle.float.specs.Answer.{firstRefusal}
 use Rattle.packets.specs.Summary.{columnsRefusal, packets, packetRefusal}
 use Rattle.packets.specs.declared.PacketResult.{PacketResult}
 use Rattle.loss_controller.specs.Setters.{rateOf, rateRefusal, capacityRefusal, startRefusal}
@@ -15,16 +16,12 @@ use Rattle.history.specs.Calls.{Call, estimate, acknowledged, alr, capac
 use Rattle.history.specs.History.{History, bytesOf, latest, heldOr, after}
 use Rattle.history.specs.Run.{capacityOf, startOf, step, left, told}
 
--- the first of two numbers that is not 0
-abbrev pub first : ℕ → ℕ → ℕ
-first a b = cond (eqb a 0) b a
-
 -- ---- a report
 
 -- "then each packet's 3 and 8": the first packet that has one gives the report's
 unfoldable pub packetsRefusal : List PacketResult → ℕ
 packetsRefusal [] = 0
-packetsRefusal (p ∷ ps) = first (packetRefusal p) (packetsRefusal ps)
+packetsRefusal (p ∷ ps) = firstRefusal (packetRefusal p) (packetsRefusal ps)
 
 -- "10: running bytes would pass 10^12, or packets 10^9."
 abbrev pub passes : History → ℕ → ℕ → Bool
@@ -40,9 +37,9 @@ stateRefusal h packets bytes sent = cond (passes h packets bytes) 10 (cond (fill
 -- "A report checks 4, 5, 2, then each packet's 3 and 8, then 10, 11."; "says 10 on an empty one" is wrong
 unfoldable pub reportRefusal : History → List ℕ → List ℕ → List ℕ → ℕ → ℕ
 reportRefusal h times sizes flags delay =
-    first (columnsRefusal times sizes flags)
-    (first (rateRefusal (rateOf delay))
-    (first (packetsRefusal (packets times sizes flags))
+    firstRefusal (columnsRefusal times sizes flags)
+    (firstRefusal (rateRefusal (rateOf delay))
+    (firstRefusal (packetsRefusal (packets times sizes flags))
     (cond (eqb (length times) 0) 0 (stateRefusal h (length times) (bytesOf sizes) (latest times)))))
 
 -- ---- any call
