@@ -44,7 +44,7 @@ const LISTS: &[(&str, &[Range<u64>])] = &[
 ];
 
 /// The list of `examples/` that tells what no tie above does.
-const NEAR_TIE: &[u8] = include_bytes!("../../examples/near_tie_8.txt");
+const NEAR_TIE: &[u8] = include_bytes!("../../examples/logarithm_keeps_111_kbit.txt");
 
 /// The seed of the refused calls that are put between the generator's.
 const SEED: u64 = 9;
