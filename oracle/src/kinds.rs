@@ -51,6 +51,11 @@ pub const KINDS: &[(&str, &str, Make)] = &[
         asides::asides,
     ),
     ("brim", "the same with a packet that finds the queue full", asides::brim),
+    (
+        "brim-fall",
+        "packets that find the queue full in a hold and in a recovery",
+        asides::brim_after_a_fall,
+    ),
     ("chunks", "reads, with line ends about every 65,536th byte", corners::chunks),
 ];
 

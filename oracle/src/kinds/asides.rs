@@ -39,6 +39,27 @@ pub fn brim(random: &mut Random, list: &mut List) {
     }
 }
 
+/// Packets that find the queue full after the fall of a rate, within its hold, and after the rise that
+/// follows it, within the recovery's window; nothing else bounds the candidates.
+pub fn brim_after_a_fall(_: &mut Random, list: &mut List) {
+    list.estimate(2e6);
+    list.acknowledged(1e9);
+    for (time, lost) in [(0, 0), (1_000, 40_000)] {
+        list.packet(time * MS, true, lost);
+        list.packet(time * MS, false, 60_000 - lost);
+        list.report(9e9);
+    }
+    list.alr(Some(1));
+    list.alr(None);
+    for time in [1_001, 1_290, 1_580, 1_870, 2_160] {
+        let fills = time == 1_290 || time == 1_870;
+        for place in 0..if fills { 4_097 } else { 1 } {
+            list.packet(time * MS - place, false, 20);
+        }
+        list.report(9e9);
+    }
+}
+
 fn none(_: &Link, _: &mut Random, _: &mut List) {}
 
 fn bounded(random: &mut Random, list: &mut List) -> Link {
