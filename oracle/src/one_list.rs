@@ -115,7 +115,9 @@ fn main() -> io::Result<ExitCode> {
         bring_back(&mut list, now, LATEST_TIME);
         play(&mut list, text);
     }
-    list.read();
+    // An open last line that changes what is published.
+    list.report(-1.0);
+    list.estimate(12_345.0);
     list.text.pop();
     io::stdout().write_all(&list.text)?;
     Ok(ExitCode::SUCCESS)
