@@ -7,6 +7,7 @@ crate=$2
 cd "$(dirname "$0")/.."
 for level in 0 1 2 3; do
     built=$(oracle/build.sh "$program" "$level")
+    rm -f "$built.calls" "$built.answers"
     "$built" "$built.calls" "$built.answers" 2>"$built.findings"
     cmp "$built.calls" "crates/$crate/stdin"
     cmp "$built.answers" "crates/$crate/stdout"

@@ -1,10 +1,10 @@
 #!/usr/bin/env python3
-"""Builds each wrong port of oracle/mutants.txt and runs it on the stored sample.
+"""Builds each wrong port of oracle/mutants.txt and oracle/touches.txt, runs it on the stored sample.
 
 Usage: oracle/mutants.py [DIRECTORY [WORDS]]. DIRECTORY holds NAME.calls and NAME.answers, by
-default oracle/sample; WORDS picks the mutants whose name has them. Prints one row per mutant: the
-lists that tell it, with the first line that differs. Exit status 1 if a mutant that is not marked
-'unseen' survives, if one that is marked is told, or if an edit does not fit or does not build.
+default oracle/sample; WORDS picks the mutants whose name has them. Prints one row per mutant: up to
+three lists that tell it, with the first line that differs. Exit status 1 if a mutant that is not
+marked 'unseen' survives, if one that is marked is told, or if an edit does not fit or does not build.
 
 Usage: oracle/mutants.py --steps. Prints which mutants the stored states of the controller's steps
 tell, among those that edit the vendored files or the steps; setters and first values are no part
@@ -12,6 +12,9 @@ of a state, so that some go untold.
 
 Usage: oracle/mutants.py --calls [WORDS]. The same as with a directory, on the stored calls of the
 controller as call lists. Line reader and queue are no part of these, so that their mutants survive.
+
+Usage: oracle/mutants.py --search TRIES WORDS. Prints, for each mutant whose name has WORDS, the first
+list of the generator's kind 'near' that tells it, among TRIES ties.
 """
 
 import concurrent.futures
@@ -26,6 +29,9 @@ ROOT = pathlib.Path(__file__).resolve().parent.parent
 ORACLE = ROOT / "oracle"
 OUT = ROOT / "target" / "oracle" / "mutants"
 SECONDS = 20
+SHOWN = 3
+RUSTC = ["rustc", "--edition", "2021", "-C", "opt-level=1", "-C", "overflow-checks=on", "-A", "warnings",
+         "-C", "prefer-dynamic", "-C", "rpath"]
 
 
 def read_mutants():
@@ -37,13 +43,58 @@ def read_mutants():
             key, _, value = line.partition(" ")
             assert key in ("file", "after", "old", "new", "unseen", "stream"), line
             mutants[-1][key] = value
+    mutants += read_touches()
     names = [mutant["name"] for mutant in mutants]
     assert len(set(names)) == len(names), "a name twice"
     return mutants
 
 
-def edited(mutant):
-    text = (ORACLE / mutant["file"]).read_text()
+def read_touches():
+    """Every call of oracle/touches.txt with every field, as mutants of one program."""
+    calls, fields, unseen = [], [], {}
+    for line in (ORACLE / "touches.txt").read_text().splitlines():
+        key, _, value = line.partition(" ")
+        if key == "call":
+            calls.append({"name": value, "after": ""})
+        elif key == "field":
+            fields.append({"name": value})
+        elif key == "set":
+            fields[-1]["set"] = value
+        elif key == "unseen":
+            pair, _, reason = value.partition(": ")
+            unseen[pair] = reason
+        elif line and not line.startswith("#"):
+            assert key in ("file", "after", "old", "new"), line
+            calls[-1][key] = value
+    pairs = [(call["name"], field["name"]) for call in calls for field in fields]
+    known = {f"{call}, {field}" for call, field in pairs} | {f"any call, {f['name']}" for f in fields}
+    assert unseen.keys() <= known, unseen.keys() - known
+    return [{"name": f"touch: {call} clears {field}", "stream": None, "touch": (calls, fields),
+             "chosen": f"{call}, {field}",
+             "unseen": unseen.get(f"{call}, {field}", unseen.get(f"any call, {field}"))}
+            for call, field in pairs]
+
+
+def touching(calls, fields):
+    """The sources in which each call asks the environment whether it is to clear a field."""
+    texts = {}
+    for call in calls:
+        file = call["file"]
+        text = edited({**call, "new": call["new"].replace("TOUCH", f"touch(\"{call['name']}\");")},
+                      texts.get(file))
+        texts[file] = text
+    cases = "".join(f"\"{field['name']}\" => {{ {field['set']} }}\n" for field in fields)
+    texts["vendor/loss_controller.rs"] += (
+        "\nimpl LossController { pub fn touch(&mut self, call: &str) {\n"
+        "static CHOSEN: std::sync::OnceLock<String> = std::sync::OnceLock::new();\n"
+        "let chosen = CHOSEN.get_or_init(|| std::env::var(\"TOUCH\").unwrap_or_default());\n"
+        "let Some((of, field)) = chosen.split_once(\", \") else { return };\n"
+        f"if of == call {{ match field {{\n{cases}_ => panic!() }} }} }} }}\n")
+    return texts
+
+
+def edited(mutant, text=None):
+    text = text or (ORACLE / mutant["file"]).read_text()
     after = mutant["after"]
     if after and after not in text:
         raise ValueError("no such place: " + after)
@@ -57,38 +108,41 @@ def edited(mutant):
 def sources():
     """What the program is built from; the generator and the other programs are no part of it."""
     names = """answer answer_line bwe call_list controller_steps instant line log private_steps
-        random reads steps stream""".split()
+        random reads steps stream tell tie""".split()
     return [ORACLE / "src" / (name + ".rs") for name in names] + sorted(ORACLE.glob("vendor/*.rs"))
 
 
 def build(mutant, name="answer"):
     """The mutant's program; built anew only where a source or the edit changed."""
-    text = edited(mutant)
-    digest = hashlib.sha256((mutant["file"] + text).encode())
+    texts = touching(*mutant["touch"]) if "touch" in mutant else {mutant["file"]: edited(mutant)}
+    digest = hashlib.sha256(repr((texts, RUSTC, name == "tell")).encode())
     for source in sources():
         digest.update(source.read_bytes())
     home = OUT / digest.hexdigest()[:24]
     program = home / name
     if program.exists():
         return program
-    for part in ("src", "vendor"):
-        (home / part).mkdir(parents=True, exist_ok=True)
-    for source in sources():
-        shutil.copy(source, home / source.relative_to(ORACLE))
-    (home / mutant["file"]).write_text(text)
-    subprocess.run(
-        ["rustc", "--edition", "2021", "-C", "opt-level=1", "-C", "overflow-checks=on",
-         "-A", "warnings", "-o", home / (name + ".new"), home / "src" / (name + ".rs")],
-        check=True, capture_output=True, text=True)
+    # 'tell' has the right tree beside the wrong one.
+    wrong = home / "wrong" if name == "tell" else home
+    for tree in {home, wrong}:
+        for part in ("src", "vendor"):
+            (tree / part).mkdir(parents=True, exist_ok=True)
+        for source in sources():
+            shutil.copy(source, tree / source.relative_to(ORACLE))
+    for file, text in texts.items():
+        (wrong / file).write_text(text)
+    subprocess.run([*RUSTC, "-o", home / (name + ".new"), home / "src" / (name + ".rs")],
+                   check=True, capture_output=True, text=True)
     os.replace(home / (name + ".new"), program)
     return program
 
 
-def first_difference(program, calls, answers):
+def first_difference(program, calls, answers, touch):
     """The number of the first answer that differs, or None."""
     with open(calls, "rb") as stdin:
         try:
-            run = subprocess.run([program], stdin=stdin, capture_output=True, timeout=SECONDS)
+            run = subprocess.run([program], stdin=stdin, capture_output=True, timeout=SECONDS,
+                                 env={**os.environ, "TOUCH": touch})
         except subprocess.TimeoutExpired:
             return "no end"
     expected = answers.read_bytes()
@@ -107,6 +161,8 @@ def told_by_stream(mutant, program):
     lists = f"'{built}/generate-2' stream {mutant['stream']}"
     command = f"cmp <({lists} | '{built}/answer-2') <({lists} | '{program}')"
     run = subprocess.run(["bash", "-c", command], capture_output=True, text=True)
+    if run.returncode > 1:
+        raise ValueError("the stream cannot be compared: " + run.stderr)
     if run.returncode == 0:
         return []
     line = run.stdout.split()[-1] if run.stdout else "panic"
@@ -119,9 +175,11 @@ def told_by(mutant, lists):
         return told_by_stream(mutant, program)
     told = []
     for calls in lists:
-        line = first_difference(program, calls, calls.with_suffix(".answers"))
+        line = first_difference(program, calls, calls.with_suffix(".answers"), mutant.get("chosen", ""))
         if line is not None:
             told.append((calls.stem, line))
+        if len(told) == SHOWN:
+            break
     return told
 
 
@@ -146,15 +204,35 @@ def told_by_states(mutant):
     return run.returncode != 0 or answers.read_bytes() != stored.read_bytes()
 
 
+# No edit: a program that is built the same way and has to survive, so that one that cannot even be
+# started is not taken for a wrong one.
+CONTROL = {"name": "no edit", "file": "src/steps.rs", "after": "", "old": "", "new": "", "unseen": None,
+           "stream": None}
+
+
 def states():
+    assert not told_by_states(CONTROL), "the program without an edit is told"
     mutants = [mutant for mutant in read_mutants()
-               if mutant["file"].startswith("vendor/") or mutant["file"] == "src/steps.rs"]
+               if mutant.get("file", "").startswith("vendor/") or mutant.get("file") == "src/steps.rs"]
     with concurrent.futures.ThreadPoolExecutor(os.cpu_count()) as pool:
         told = list(pool.map(told_by_states, mutants))
     for mutant, is_told in zip(mutants, told):
         print("told  " if is_told else "untold", mutant["name"])
     unseen = sum(is_told and mutant["unseen"] is not None for mutant, is_told in zip(mutants, told))
     print(f"{sum(told)} of {len(mutants)} told, {unseen} of which no list tells")
+    return 0
+
+
+def search(tries, words):
+    mutants = [mutant for mutant in read_mutants() if words in mutant["name"] and "touch" not in mutant]
+    assert mutants, "no mutants"
+
+    def found(mutant):
+        return subprocess.run([build(mutant, "tell"), tries], capture_output=True, text=True).stdout
+
+    with concurrent.futures.ThreadPoolExecutor(os.cpu_count()) as pool:
+        for mutant, seed in zip(mutants, pool.map(found, mutants)):
+            print(f"{seed.strip() or 'none':20} {mutant['name']}", flush=True)
     return 0
 
 
@@ -183,6 +261,8 @@ def stored_calls():
 def main():
     if sys.argv[1:] == ["--steps"]:
         return states()
+    if sys.argv[1:2] == ["--search"]:
+        return search(*sys.argv[2:])
     for program in ("answer", "generate"):
         subprocess.run([ORACLE / "build.sh", program], check=True, stdout=subprocess.DEVNULL)
     if sys.argv[1:2] == ["--calls"]:
@@ -193,14 +273,15 @@ def main():
     lists = sorted(directory.glob("*.calls"))
     mutants = [mutant for mutant in read_mutants() if words in mutant["name"]]
     assert lists and mutants, "no lists or no mutants"
+    assert not told_by(CONTROL, lists), "the program without an edit is told"
+    for mutant in [mutant for mutant in mutants if "touch" in mutant][:1]:
+        assert not told_by({**mutant, "chosen": ""}, lists), "the program that touches nothing is told"
     counts = {}
     with concurrent.futures.ThreadPoolExecutor(os.cpu_count()) as pool:
         for mutant, (verdict, note, told) in zip(
                 mutants, pool.map(lambda mutant: judge(mutant, lists), mutants)):
             counts[verdict] = counts.get(verdict, 0) + 1
-            where = ", ".join(f"{name} {line}" for name, line in told[:3])
-            if len(told) > 3:
-                where += f", and {len(told) - 3} more"
+            where = ", ".join(f"{name} {line}" for name, line in told)
             print(f"{verdict:8} {mutant['name']:70} {where or note}", flush=True)
     print(", ".join(f"{count} {verdict}" for verdict, count in sorted(counts.items())),
           f"of {len(mutants)} mutants on {len(lists)} lists")

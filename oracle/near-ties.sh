@@ -1,4 +1,5 @@
 #!/bin/sh
+# Usage: oracle/near-ties.sh [check]
 # Finds the near ties of examples/ again: runs the search with two seeds and keeps the numbers below.
 # What is found depends on the platform's logarithm; see examples/README.md. With the word 'check'
 # nothing is written, and the exit status tells whether the search finds the stored lists.
@@ -9,15 +10,22 @@ found=target/oracle/near_ties
 rm -rf "$found" && mkdir -p "$found/1" "$found/2"
 "$search" 37 1 "$found/1"
 "$search" 122 2 "$found/2"
-number=0
-for kept in 1/37 1/30 1/15 1/35 1/8 1/22 1/32 2/122; do
-    number=$((number + 1))
-    list=$found/$(dirname $kept)/near_tie_$(basename $kept)
+while read -r kept name; do
+    list=$found/$(dirname "$kept")/near_tie_$(basename "$kept")
     if [ "${1:-}" = check ]; then
-        cmp "$list.txt" "examples/near_tie_$number.txt"
+        cmp "$list.txt" "examples/$name.txt"
     else
-        cp "$list.txt" "examples/near_tie_$number.txt"
+        cp "$list.txt" "examples/$name.txt"
     fi
-    echo "near_tie_$number"
+    echo "$name"
     cat "$list.why"
-done
+done <<LISTS
+1/37 logarithm_doubles_rate
+1/30 logarithm_raises_by_quarter
+1/15 logarithm_raises_by_fifth
+1/35 logarithm_keeps_600_kbit
+1/8 logarithm_drops_255_kbit
+1/22 logarithm_keeps_381_kbit
+1/32 logarithm_drops_22_bit
+2/122 logarithm_keeps_111_kbit
+LISTS

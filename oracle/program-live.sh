@@ -1,41 +1,65 @@
 #!/bin/sh
-# Usage: oracle/program-live.sh [LISTS [SEED]]. Compares the program with the oracle: on fresh lists
-# of every kind, damaged ones among them, on the streamed list that comes to code 10, and on what a
-# shell can hand it. Needs rustc, and builds the program where it is missing.
+# Usage: oracle/program-live.sh [LISTS [SEED]]
+# Compares the program with the oracle: on fresh lists of every kind, damaged ones among them, on the
+# streamed list that comes to code 10, and on what a shell can hand it. Needs rustc, and asks 'rt check
+# answer' for the program. With PROGRAM=FILE in the environment that program is compared instead.
 set -eu
 cd "$(dirname "$0")/.."
 lists=${1:-3000}
 seed=${2:-1}
-[ -x target/bin/answer ] || rt check answer
-program=$PWD/target/bin/answer
+program=${PROGRAM:-}
+if [ -z "$program" ]; then
+    rt check answer
+    program=$PWD/target/bin/answer
+fi
 answer=$PWD/$(oracle/build.sh answer)
 compare=$(oracle/build.sh compare)
 work=$(mktemp -d)
 trap 'rm -rf "$work"' EXIT
 
-"$compare" "$lists" "$seed" -- "$program"
-oracle/compare-stream.sh bytes "$program"
+# Usage: ends NAME SECONDS STATUSES COMMAND.. Whether the command ends in time with one of the statuses.
+ends() {
+    name=$1 seconds=$2 statuses=$3
+    shift 3
+    code=0
+    timeout -k 5 "$seconds" "$@" || code=$?
+    case " $statuses " in
+    *" $code "*) return ;;
+    esac
+    [ "$code" = 124 ] && code="none: it does not end"
+    echo "$name: status $code" >&2
+    exit 1
+}
+
+ends "fresh lists" 300 0 "$compare" "$lists" "$seed" -- "$program"
+ends "a streamed list" 300 0 oracle/compare-stream.sh bytes "$program"
 
 same() {
     "$answer" <"$work/list" >"$work/theirs"
-    "$program" <"$work/list" >"$work/ours"
+    ends "$1" 60 0 "$program" <"$work/list" >"$work/ours"
     cmp "$work/theirs" "$work/ours"
     echo "$1: no difference"
 }
+read=' 7                   0                   0     0'
 : >"$work/list"
 same "empty input"
-printf ' 7                   0                   0     0' >"$work/list"
+printf '%s' "$read" >"$work/list"
 same "a last line without newline"
 head -c 3000000 /dev/urandom >"$work/list"
 same "3 MB of noise"
 head -c 100000000 /dev/zero | tr '\0' '7' >"$work/list"
-printf '\n 7                   0                   0     0\n' >>"$work/list"
+printf '\n%s\n' "$read" >>"$work/list"
 same "a line of 100 MB"
 
-# A full and a closed output: the program stops, and no wrong line is written.
-yes ' 7                   0                   0     0' | head -n 1000000 >"$work/list"
-if timeout 20 "$program" <"$work/list" >/dev/full; then :; fi
-timeout 20 "$program" <"$work/list" | head -n 1000 >"$work/ours"
-"$answer" <"$work/list" 2>/dev/null | head -n 1000 >"$work/theirs"
+# A full and a closed output: the program ends, by the signal SIGPIPE (141) in the second case, and what
+# was written before is right.
+yes "$read" | head -n 1000000 >"$work/list"
+ends "a full output" 20 0 "$program" <"$work/list" >/dev/full
+echo "a full output: it ends"
+mkfifo "$work/pipe"
+head -n 1000 <"$work/pipe" >"$work/ours" &
+ends "a closed output" 20 "0 141" "$program" <"$work/list" >"$work/pipe"
+wait
+head -n 1000 "$work/list" | "$answer" >"$work/theirs"
 cmp "$work/theirs" "$work/ours"
-echo "a full and a closed output: it stops"
+echo "a closed output: it ends"

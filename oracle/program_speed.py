@@ -2,8 +2,8 @@
 """Times the program beside the oracle's on the same list, turn and turn about.
 
 Usage: oracle/program_speed.py [RUNS [LINES]]. Prints the best time of each and their ratio, for LINES lines
-of the realistic stream, and exits with 1 where the program is the slower one. Needs rustc, and builds the
-program where it is missing.
+of the realistic stream, and exits with 1 where the program is the slower one or answers otherwise. Needs
+rustc, and asks 'rt check answer' for the program.
 """
 
 import subprocess
@@ -26,9 +26,18 @@ def write_list(lines, path):
     with subprocess.Popen(
         [built("generate"), "stream", "realistic"], stdout=subprocess.PIPE, stderr=subprocess.DEVNULL
     ) as stream, open(path, "wb") as out:
-        for _ in range(lines):
-            out.write(stream.stdout.readline())
+        for number in range(lines):
+            line = stream.stdout.readline()
+            if not line:
+                sys.exit(f"the stream has only {number} lines")
+            out.write(line)
         stream.kill()
+
+
+def answers(program, path):
+    """What a program writes."""
+    with open(path, "rb") as listed:
+        return subprocess.run([program], stdin=listed, stdout=subprocess.PIPE, check=True).stdout
 
 
 def seconds(program, path):
@@ -42,11 +51,12 @@ def seconds(program, path):
 def main():
     runs, lines = [*map(int, sys.argv[1:]), *(15, 1_500_000)[len(sys.argv) - 1 :]]
     program = ROOT / "target/bin/answer"
-    if not program.exists():
-        subprocess.run(["rt", "check", "answer"], cwd=ROOT, check=True)
+    subprocess.run(["rt", "check", "answer"], cwd=ROOT, check=True, stdout=subprocess.DEVNULL)
     oracle = built("answer")
     with tempfile.NamedTemporaryFile() as listed:
         write_list(lines, listed.name)
+        if answers(program, listed.name) != answers(oracle, listed.name):
+            sys.exit("the program answers otherwise than the oracle")
         times = [(seconds(program, listed.name), seconds(oracle, listed.name)) for _ in range(runs)]
     ours, theirs = (min(column) for column in zip(*times))
     print(f"{lines} lines, best of {runs}: program {ours:.3f} s, oracle {theirs:.3f} s, ratio {ours / theirs:.3f}")

@@ -1,6 +1,7 @@
 #!/bin/sh
+# Usage: oracle/quick.sh
 # Builds the oracle and compares, with fixed seeds, all that can be compared without the port, in
-# less than two minutes. Exit status 0 if everything agrees.
+# less than two minutes. Exit status 0 if everything agrees and every run ends with 0.
 set -eu
 cd "$(dirname "$0")/.."
 work=target/oracle/quick
@@ -11,9 +12,16 @@ line() {
     printf '%2s%20s%20s%6s\n' "$@"
 }
 
+# Usage: agrees PROGRAM ANSWERS, with a list on standard input. No pipe hides the program's status.
+agrees() {
+    "$1" >"$work/answered"
+    cmp "$work/answered" "$2"
+}
+
 # Usage: holds NAME ANSWER, with a list on standard input: whether the last answer is ANSWER.
 holds() {
-    last=$("$answer" | tail -n 1)
+    "$answer" >"$work/answered"
+    last=$(tail -n 1 "$work/answered")
     if [ "$last" != "$2" ]; then
         echo "$1: answered$last, not$2" >&2
         exit 1
@@ -27,8 +35,8 @@ holds() {
 } >"$work/example.calls"
 example=' 0 0 1 4696837146684686336 4576918229304087675'
 printf '%s\n%s\n' "$example" "$example" >"$work/example.answers"
-"$answer" <"$work/example.calls" | cmp - "$work/example.answers"
-printf '' | "$answer" | cmp - /dev/null
+agrees "$answer" "$work/example.answers" <"$work/example.calls"
+agrees "$answer" /dev/null </dev/null
 echo "document 01's example: agrees"
 
 # Its values: the steps', and the ceiling of one observation (estimate 10^15 set after it).
@@ -49,16 +57,16 @@ observe 250000000 100 | holds "a span of 250,000,000 ns" "$none"
 echo "document 01's values: agree"
 
 # Lines of any length, in constant memory.
-(
+printf ' 1 0 0                   0 4576918229304087675\n' >"$work/long"
+head -c 200000000 /dev/zero | (
     ulimit -v 65536
-    head -c 200000000 /dev/zero | "$answer"
-) >"$work/long"
-printf ' 1 0 0                   0 4576918229304087675\n' | cmp - "$work/long"
+    agrees "$answer" "$work/long"
+)
 echo "a line of 200 MB: agrees"
 
 # Lines that come in parts.
 for calls in oracle/sample/damaged-*.calls; do
-    dd if="$calls" bs=7 2>/dev/null | "$answer" | cmp - "${calls%.calls}.answers"
+    dd if="$calls" bs=7 2>/dev/null | agrees "$answer" "${calls%.calls}.answers"
 done
 echo "lines in parts: agree"
 
@@ -71,15 +79,23 @@ done
 for level in 0 1 3; do
     other=$(oracle/build.sh answer "$level")
     for calls in oracle/sample/*.calls; do
-        "$other" <"$calls" | cmp - "${calls%.calls}.answers"
+        agrees "$other" "${calls%.calls}.answers" <"$calls"
     done
 done
 echo "the sample: agrees at levels 0 to 3"
 
+# The examples' answers.
+for list in examples/*.txt; do
+    agrees "$answer" "${list%.txt}.answers" <"$list"
+done
+echo "the examples: agree"
+
 # The comparison finds no difference where there is none, and one where there is one.
 compare=$(oracle/build.sh compare)
 "$compare" 500 1 -- "$answer"
-if "$compare" 500 1 -- sed 's/1$/2/' >/dev/null; then
-    echo "the comparison misses a difference" >&2
+code=0
+"$compare" 500 1 -- sed 's/1$/2/' >/dev/null || code=$?
+if [ "$code" != 1 ]; then
+    echo "the comparison misses a difference: status $code" >&2
     exit 1
 fi

@@ -104,4 +104,5 @@ def refuted(edit):
 subprocess.run(["rt", "dev", "history"], cwd=root, check=True, capture_output=True)
 fresh_copy()
 edits = sys.argv[1:] or sorted(name[:-5] for name in os.listdir(root + "/crates/history/must-fail"))
+assert edits, "no edits"
 sys.exit(0 if all([refuted(edit) for edit in edits]) else 1)

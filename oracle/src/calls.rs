@@ -29,7 +29,7 @@ use line::Code;
 use random::Random;
 use tie::{text, Line};
 
-/// Kinds and seeds of the generator. The ties tell roundings of objective and logarithm.
+/// Kinds and seeds of the generator. The ties, near and argument tell roundings of objective and logarithm.
 const LISTS: &[(&str, &[Range<u64>])] = &[
     ("single", &[1..21]),
     ("sparse", &[1..6]),
@@ -41,10 +41,23 @@ const LISTS: &[(&str, &[Range<u64>])] = &[
     ("targets", &[0..13]),
     ("dense", &[1..2]),
     ("runaway", &[1..2]),
+    ("asides", &[1..3]),
+    ("fresh", &[1..2]),
+    ("near", &[45_635..45_636, 80_107..80_108, 91_651..91_652, 307_549..307_550, 421_177..421_178]),
+    (
+        "argument",
+        &[
+            4_608_982_747_329_137_194..4_608_982_747_329_137_195,
+            4_609_009_823_830_523_885..4_609_009_823_830_523_886,
+            4_612_637_526_018_320_329..4_612_637_526_018_320_330,
+            4_612_374_656_392_200_293..4_612_374_656_392_200_294,
+            4_612_810_490_345_132_319..4_612_810_490_345_132_320,
+        ],
+    ),
 ];
 
 /// The list of `examples/` that tells what no tie above does.
-const NEAR_TIE: &[u8] = include_bytes!("../../examples/near_tie_8.txt");
+const NEAR_TIE: &[u8] = include_bytes!("../../examples/logarithm_keeps_111_kbit.txt");
 
 /// The seed of the refused calls that are put between the generator's.
 const SEED: u64 = 9;

@@ -42,7 +42,8 @@ fn settings() -> Option<Settings> {
         _ => return None,
     };
     let command = arguments[split + 1..].to_vec();
-    (!command.is_empty()).then_some(Settings { lists, seed, command })
+    // A comparison of no list would always agree.
+    (lists != 0 && !command.is_empty()).then_some(Settings { lists, seed, command })
 }
 
 fn oracle(list: &[u8]) -> Vec<u8> {

@@ -3,10 +3,14 @@
 use crate::list::List;
 use crate::random::Random;
 
+#[path = "kinds/asides.rs"]
+mod asides;
 #[path = "kinds/corners.rs"]
 mod corners;
 #[path = "kinds/damaged.rs"]
 mod damaged;
+#[path = "kinds/fresh.rs"]
+mod fresh;
 #[path = "kinds/hold.rs"]
 mod hold;
 #[path = "kinds/link.rs"]
@@ -15,8 +19,6 @@ mod link;
 mod targets;
 #[path = "kinds/ties.rs"]
 mod ties;
-#[path = "kinds/whole.rs"]
-mod whole;
 #[path = "kinds/wild.rs"]
 mod wild;
 
@@ -35,19 +37,38 @@ pub const KINDS: &[(&str, &str, Make)] = &[
     ("targets", "situations that random lists seldom meet, twelve by number", targets::targets),
     ("runaway", "zero bytes drive the rate above 2^64", targets::runaway),
     ("damaged", "lines out of shape among good ones", damaged::damaged),
-    ("whole", "one list with something of every kind", whole::whole),
+    ("fresh", "what only a fresh controller shows", fresh::fresh),
     ("single", "one packet per observation", link::single),
+    ("near", "one choice, up to fifty floats from where it flips", |random, list| {
+        ties::near(random.below(100_000_000), list);
+    }),
+    ("argument", "choices that hang on one given logarithm", |random, list| {
+        ties::argument((1.2 + 0.2 * random.fraction()).to_bits(), list);
+    }),
+    (
+        "asides",
+        "calls that should change nothing or one field, where every field counts",
+        asides::asides,
+    ),
+    ("brim", "the same with a packet that finds the queue full", asides::brim),
+    (
+        "brim-fall",
+        "packets that find the queue full in a hold and in a recovery",
+        asides::brim_after_a_fall,
+    ),
+    ("chunks", "reads, with line ends about every 65,536th byte", corners::chunks),
 ];
 
 pub fn make(name: &str, seed: u64) -> Option<Vec<u8>> {
     let place = KINDS.iter().position(|kind| kind.0 == name)?;
     let mut random = Random::new(seed.wrapping_mul(1_000_003).wrapping_add(place as u64));
     let mut list = List::new();
-    // The first seeds of targets are their numbers.
-    if name == "targets" && seed < targets::COUNT {
-        targets::target(seed, &mut list);
-    } else {
-        KINDS[place].2(&mut random, &mut list);
+    // The first seeds of targets are their numbers; all seeds of near and argument are numbers too.
+    match name {
+        "targets" if seed < targets::COUNT => targets::target(seed, &mut list),
+        "near" => ties::near(seed, &mut list),
+        "argument" => ties::argument(seed, &mut list),
+        _ => KINDS[place].2(&mut random, &mut list),
     }
     Some(list.text)
 }

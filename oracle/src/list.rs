@@ -65,6 +65,12 @@ impl List {
         (self.last.published == 1).then(|| f64::from_bits(self.last.rate))
     }
 
+    /// How many observations have completed.
+    #[allow(dead_code)]
+    pub fn count(&self) -> u64 {
+        self.program.reads().count
+    }
+
     pub fn is_decreasing(&self) -> bool {
         self.last.state == 2
     }

@@ -48,6 +48,59 @@ impl Tie {
         Tie { lines, free }
     }
 
+    /// The same behind up to fifteen observations without loss and an ALR change, so that slots wrap.
+    fn behind_others(random: &mut Random, start: u64) -> Tie {
+        let mut lines = vec![[1, 1e6_f64.to_bits(), 0, 0]];
+        let mut time = start;
+        for _ in 0..=1 + random.below(15) {
+            lines.push([5, time, 0, 1_000]);
+            lines.push([6, 1.0_f64.to_bits(), 0, 0]);
+            time += 300 * MS;
+        }
+        lines.push([3, 1, 1, 0]);
+        lines.push([3, 0, 0, 0]);
+        let tie = Tie::random(random, time);
+        let free = lines.len() + tie.free;
+        lines.extend(tie.lines);
+        Tie { lines, free }
+    }
+
+    /// One observation, sent about at the given acknowledged rate; the estimate is free.
+    pub fn at_rate(random: &mut Random, rate: f64, start: u64) -> Tie {
+        let estimate = rate * (0.6 + random.fraction());
+        let delay = rate * random.pick(&[0.5, 1.0, 2.0, f64::INFINITY]);
+        let bytes = 10 + random.below(50);
+        let lost = random.below(bytes + 1);
+        let seconds = bytes as f64 * 8.0 / (rate * (0.5 + 2.0 * random.fraction()));
+        let time = start + (seconds * 1e9) as u64;
+        let lines = vec![
+            [1, estimate.to_bits(), 0, 0],
+            [2, rate.to_bits(), 0, 0],
+            [5, start, 0, 0],
+            [6, delay.to_bits(), 0, 0],
+            [5, time, 0, bytes - lost],
+            [5, time, 1, lost],
+            [6, delay.to_bits(), 0, 0],
+        ];
+        Tie { lines, free: 0 }
+    }
+
+    /// The tie of a number; every fourth stands behind others.
+    pub fn numbered(number: u64) -> Tie {
+        let mut random = Random::new(number);
+        match number % 4 {
+            0 => Tie::behind_others(&mut random, 1_000 * MS),
+            _ => Tie::random(&mut random, 1_000 * MS),
+        }
+    }
+
+    /// The list of a seed: the tie of seed / 100, with a float up to fifty from where its choice flips first.
+    pub fn near(seed: u64, choice: impl Fn(&[Line]) -> Option<usize>) -> Vec<Line> {
+        let tie = Tie::numbered(seed / 100);
+        let flip = tie.flip(choice).unwrap_or(tie.lines[tie.free][1]);
+        tie.with(flip + seed % 100 - 50)
+    }
+
     pub fn with(&self, a: u64) -> Vec<Line> {
         let mut lines = self.lines.clone();
         lines[self.free][1] = a;
@@ -56,11 +109,18 @@ impl Tie {
 
     /// Places where the choice, given all lines, flips between two floats next to each other.
     pub fn flips(&self, choice: impl Fn(&[Line]) -> Option<usize>) -> Vec<u64> {
-        let start = f64::from_bits(self.lines[self.free][1]);
-        let points: Vec<u64> =
-            (0..12).map(|i| (start * (0.4 + 0.1 * i as f64)).to_bits()).collect();
         let flip = |pair: &[u64]| self.bisect(pair[0], pair[1], &choice);
-        points.windows(2).filter_map(flip).collect()
+        self.points().windows(2).filter_map(flip).collect()
+    }
+
+    /// The first of them.
+    pub fn flip(&self, choice: impl Fn(&[Line]) -> Option<usize>) -> Option<u64> {
+        self.points().windows(2).find_map(|pair| self.bisect(pair[0], pair[1], &choice))
+    }
+
+    fn points(&self) -> Vec<u64> {
+        let start = f64::from_bits(self.lines[self.free][1]);
+        (0..12).map(|i| (start * (0.4 + 0.1 * i as f64)).to_bits()).collect()
     }
 
     fn bisect(

@@ -247,3 +247,23 @@ pub fn queue(_: &mut Random, list: &mut List) {
     list.report(2e7);
     one(list, 4 * SECOND, false, 100, 2e7);
 }
+
+/// A line about the end of each of the first chunks that a program reads: its newline is the next chunk's
+/// first byte, this one's last, or it goes on; empty lines; a line with more bytes than a line has.
+pub fn chunks(_: &mut Random, list: &mut List) {
+    const CHUNK: usize = 65_536;
+    let read = b" 7                   0                   0     0".as_slice();
+    let long = [read, b"     "].concat();
+    for (end, (line, before)) in
+        [(read, 48), (read, 49), (read, 20), (&long, 48), (&long, 49), (b"".as_slice(), 0)]
+            .into_iter()
+            .enumerate()
+    {
+        // Lines up to there, the last of them long.
+        list.read();
+        let room = (end + 1) * CHUNK - before - list.text.len() - 1;
+        list.raw(&vec![b'7'; room]);
+        list.raw(line);
+        list.read();
+    }
+}

@@ -6,6 +6,8 @@ use crate::list::List;
 use crate::random::Random;
 use crate::tie::{best, text, Line, Tie};
 
+const ARGUMENT_TIES: u64 = 12;
+
 pub fn ties(random: &mut Random, list: &mut List) {
     for turn in 0..8 {
         tie(random, list, (1 + 10 * turn) * SECOND);
@@ -15,6 +17,29 @@ pub fn ties(random: &mut Random, list: &mut List) {
 /// One such choice at `start`, if a random short list has one, and then an empty window.
 pub fn tie(random: &mut Random, list: &mut List, start: u64) {
     let tie = Tie::random(random, start);
+    play(random, list, &tie);
+}
+
+/// Choices in which 1 + rate, of which the logarithm is taken, is the float whose bits are the seed: the
+/// rate is the acknowledged one, and the estimate is bisected.
+pub fn argument(seed: u64, list: &mut List) {
+    let mut random = Random::new(seed);
+    let rate = f64::from_bits(seed) - 1.0;
+    for turn in 0..ARGUMENT_TIES {
+        let start = (1 + 20_000 * turn) * SECOND;
+        let tie = Tie::at_rate(&mut random, rate, start);
+        play(&mut random, list, &tie);
+        // DelayBased again, for the next one.
+        for time in [start + 10_000 * SECOND, start + 10_001 * SECOND] {
+            list.packet(time, false, 1);
+            list.report(0.0);
+        }
+        list.alr(Some(1));
+        list.alr(None);
+    }
+}
+
+fn play(random: &mut Random, list: &mut List, tie: &Tie) {
     let flips = tie.flips(|lines| choice(&list.text, lines));
     if flips.is_empty() {
         return;
@@ -25,6 +50,13 @@ pub fn tie(random: &mut Random, list: &mut List, start: u64) {
     }
     list.alr(Some(1));
     list.alr(None);
+}
+
+/// One choice about which one float decides; the seed says which list and which float.
+pub fn near(seed: u64, list: &mut List) {
+    for line in Tie::near(seed, |lines| choice(b"", lines)) {
+        list.raw(text(&line).as_bytes());
+    }
 }
 
 /// The candidate that is chosen by the last of `lines`, after those before them.
