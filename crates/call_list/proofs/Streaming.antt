@@ -11,12 +11,10 @@ use lib.Dec.{eqb, ltb, lit≤}
 use lib.ListN.{length, take, drop, set, replicate, length-take, length-append, length-set, length-replicate}
 use lib.Seq.{take-append-add, take-nil, take-all, take-append-le, take-suc-set, take-at, length-take-le}
 use Rattle.call_line.specs.Line.{lineOf}
-use Rattle.call_line.specs.declared.Line.{Line}
 use Rattle.call_line.proofs.Clear.{other-length}
-use Rattle.call_list.specs.declared.Reading.{Reading}
 use Rattle.call_list.specs.declared.State.{State}
 use Rattle.call_list.specs.declared.Fed.{Fed}
-use Rattle.call_list.specs.Answer.{Machine, Answered, calls, lineControlled, lineQueued, afterOf, readingOf, readAfter, rowOf}
+use Rattle.call_list.specs.Answer.{Machine, readingOf}
 use Rattle.call_list.specs.Feed.{Run, kept, rowWidth, pushedLen, pushed, told, ended, step, runs, finished, startOf, fresh, FedBy, Feeds, Finishes, roomy}
 use Rattle.call_list.proofs.Laying.{length-row}
 use Rattle.call_list.specs.Whole.{lastLine, linesFrom, linesOf, answeredLine, row, answersTo, joined, none, freshMachine, answers, Reached, started, fed, Program}
@@ -34,33 +32,13 @@ cut-line l = pick (decLe (length l) kept)
     pick (no n) =
         other-length (take kept l) (λ e. omega (arith, n, length-take kept l)) ∙ sym (other-length l (λ e. omega (arith, n)))
 
--- ---- the reading
-
--- after every line it is the controller's, if it was before
-pub reading-kept :
-    (m : Machine) (l : Line) (r : Reading) → r ≡ readingOf (m .controller)
-    → readAfter r l (afterOf m l .machine .controller) ≡ readingOf (afterOf m l .machine .controller)
-unfolding afterOf
-reading-kept m l r e = pick (calls l)
-  where
-    new : Bool → Answered
-    new t =
-        cond t
-        (record { refusal = lineControlled (m .controller) (m .queue) l .refusal; machine = record { controller = lineControlled (m .controller) (m .queue) l .controller; queue = lineQueued (m .queue) l .queue } })
-        (record { refusal = lineQueued (m .queue) l .refusal; machine = record { controller = m .controller; queue = lineQueued (m .queue) l .queue } })
-
-    pick : (t : Bool) → cond t (readingOf (new t .machine .controller)) r ≡ readingOf (new t .machine .controller)
-    pick true = refl
-    pick false = e
-
 -- ---- a run in the middle of a line
 
--- the run r has read l of the present line, and has the controller's reading
+-- the run r has read l of the present line
 record Reads (r : Run) (l : List ℕ) : Type 0 where
   short : r .len ≤ kept
   places : length (r .line) ≡ kept
   text : take (r .len) (r .line) ≡ take kept l
-  reading : r .reading ≡ readingOf (r .machine .controller)
 
 -- how much that is
 count : (r : Run) (l : List ℕ) → Reads r l → r .len ≡ min kept (length l)
@@ -81,7 +59,6 @@ reads-byte r l b h = pick (ltb (r .len) kept) refl
           line = cond t (set (r .line) (r .len) b) (r .line);
           len = cond t (r .len + 1) (r .len);
           machine = r .machine;
-          reading = r .reading;
           out = r .out;
         })
         (l ++ (b ∷ []))
@@ -96,12 +73,11 @@ reads-byte r l b h = pick (ltb (r .len) kept) refl
               (take-suc-set (r .line) (r .len) b (omega (arith, h .places))
               ∙ ap (λ (x : List ℕ). x ++ (b ∷ [])) (h .text ∙ take-all kept l (omega arith))
               ∙ sym (take-all kept (l ++ (b ∷ [])) (omega (arith, length-append l (b ∷ [])))));
-          reading = h .reading;
         }
     pick false e =
         let k : kept ≤ r .len = ltb-false (r .len) kept e in
         let m : kept ≤ length l = omega (arith, count r l h) in
-        record { short = h .short; places = h .places; text = h .text ∙ sym (take-append-le kept l (b ∷ []) m); reading = h .reading }
+        record { short = h .short; places = h .places; text = h .text ∙ sym (take-append-le kept l (b ∷ []) m) }
 
 -- its end
 module _ (r : Run) (l : List ℕ) (h : Reads r l) where
@@ -109,12 +85,10 @@ module _ (r : Run) (l : List ℕ) (h : Reads r l) where
   ended-is = ap (told r) (same-line r l h)
 
   told-out : told r (lineOf l) .out ≡ r .out ++ row (answeredLine (r .machine) l)
-  told-out =
-      ap (λ (x : Reading). r .out ++ rowOf (answeredLine (r .machine) l .refusal) x) (reading-kept (r .machine) (lineOf l) (r .reading) (h .reading))
+  told-out = refl
 
   told-reads : Reads (told r (lineOf l)) []
-  told-reads =
-      record { short = omega arith; places = refl; text = refl; reading = reading-kept (r .machine) (lineOf l) (r .reading) (h .reading) }
+  told-reads = record { short = omega arith; places = refl; text = refl }
 
 -- ---- byte by byte, and line by line
 
@@ -149,7 +123,7 @@ flow (b ∷ s) r l h = pick (flow s) (eqb b 10)
 
 -- what was written before stands before what is written next
 abbrev onto : List ℕ → Run → Run
-onto o q = record { line = q .line; len = q .len; machine = q .machine; reading = q .reading; out = o ++ q .out }
+onto o q = record { line = q .line; len = q .len; machine = q .machine; out = o ++ q .out }
 
 step-onto : (r : Run) (o : List ℕ) (b : ℕ) → step (onto o r) b ≡ onto o (step r b)
 unfolding step
@@ -178,7 +152,7 @@ runs-append (b ∷ s) t r = runs-append s t (step r b)
 
 -- what a call leaves: its bytes, and where the next call starts
 abbrev cleared : Run → Run
-cleared r = record { line = r .line; len = r .len; machine = r .machine; reading = r .reading; out = [] }
+cleared r = record { line = r .line; len = r .len; machine = r .machine; out = [] }
 
 module _ (f : Fed) (ts ss fs out out₀ : List ℕ) (r : Run) (b : FedBy f ts ss fs out r out₀) where
   written-is : take (f .written) out ≡ r .out
@@ -215,7 +189,7 @@ runs-to (fed {chunks = cs} {w = w} {p = p} {ts = ts} {ss = ss} {fs = fs} f ts' s
 -- the whole input's answers, byte by byte
 whole : (input : List ℕ) → answers input ≡ finished (runs start input) .out
 unfolding answers
-whole input = sym (flow input start [] (record { short = omega arith; places = refl; text = refl; reading = refl }))
+whole input = sym (flow input start [] (record { short = omega arith; places = refl; text = refl }))
 
 -- "The program reads a call list from standard input": however the input is cut into chunks, what is written is the answers to its lines
 pub in-chunks : (chunks : List (List ℕ)) (w : List ℕ) → Program chunks w → w ≡ answers (joined chunks)
@@ -269,12 +243,7 @@ abbrev left : Run → Fed
 left r =
     record {
       taken = true;
-      state =
-          record {
-            line = r .line;
-            len = r .len;
-            session = record { controller = r .machine .controller; reading = r .reading; queued = r .machine .queue .count };
-          };
+      state = record { line = r .line; len = r .len; controller = r .machine .controller; queued = r .machine .queue .count };
       written = length (r .out);
     }
 

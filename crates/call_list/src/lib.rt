@@ -9,6 +9,7 @@ ghost use Rattle.loss_controller.specs.Setters.{rateOf};
 ghost use Rattle.call_line.specs.Column.{column};
 ghost use Rattle.call_line.specs.Line.{lineOf};
 ghost use Rattle.call_list.specs.Answer as Answers;
+ghost use Rattle.call_list.specs.Split as Split;
 ghost use Rattle.call_list.specs.Feed as Feeding;
 ghost use Rattle.call_list.specs.Pieces as Pieces;
 use bandwidth::Bitrate;
@@ -35,30 +36,30 @@ const TEXT: usize = ROW - 2;
 const FULL: u8 = 12;
 
 // What an answer reads of the controller
-pub struct Reading {
-    pub state: u8,
-    pub published: u8,
-    pub rate: u64,
-    pub inherent_loss: u64,
+struct Reading {
+    state: u8,
+    published: u8,
+    rate: u64,
+    inherent_loss: u64,
 }
 
-// The program between two lines, but for the queue's columns. The reading is the controller's, kept
-// so that a line that leaves the controller alone does not touch it: it is large.
-pub struct Session {
-    pub controller: LossController,
-    pub reading: Reading,
-    pub queued: usize,
+// What is between two lines of a chunk, but for the queue's columns. The reading is the
+// controller's, kept so that a line that leaves the controller alone does not touch it: it is large.
+struct Session {
+    controller: LossController,
+    reading: Reading,
+    queued: usize,
 }
 
 // The five numbers of an answer
-pub struct Answer {
-    pub refusal: u8,
-    pub reading: Reading,
+struct Answer {
+    refusal: u8,
+    reading: Reading,
 }
 
-pub struct LineAnswer {
-    pub session: Session,
-    pub answer: Answer,
+struct LineAnswer {
+    session: Session,
+    answer: Answer,
 }
 
 // ---- the reading
@@ -111,7 +112,7 @@ fn quiet_line(
     flags: &mut [u8; PLACES],
     line: Line,
 ) -> Quiet
-    ensures { λ r. ⌜ Pieces.QuietBy r (now (times .exit)) (now (sizes .exit)) (now (flags .exit)) (Answers.calls line) (Answers.lineQueued (Answers.queueOf queued (now (times .entry)) (now (sizes .entry)) (now (flags .entry))) line) ⌝ }
+    ensures { λ r. ⌜ Pieces.QuietBy r (now (times .exit)) (now (sizes .exit)) (now (flags .exit)) (Split.calls line) (Split.lineQueued (Answers.queueOf queued (now (times .entry)) (now (sizes .entry)) (now (flags .entry))) line) ⌝ }
 {
     match line {
         Line::Taken(call) => quiet_call(queued, times, sizes, flags, call),
@@ -127,7 +128,7 @@ fn quiet_call(
     flags: &mut [u8; PLACES],
     call: Call,
 ) -> Quiet
-    ensures { λ r. ⌜ Pieces.QuietBy r (now (times .exit)) (now (sizes .exit)) (now (flags .exit)) (Answers.callCalls call) (Answers.callQueued (Answers.queueOf queued (now (times .entry)) (now (sizes .entry)) (now (flags .entry))) call) ⌝ }
+    ensures { λ r. ⌜ Pieces.QuietBy r (now (times .exit)) (now (sizes .exit)) (now (flags .exit)) (Split.callCalls call) (Split.callQueued (Answers.queueOf queued (now (times .entry)) (now (sizes .entry)) (now (flags .entry))) call) ⌝ }
 {
     match call {
         Call::Packet { time, lost, size } => {
@@ -173,7 +174,7 @@ fn queue_packet(
     lost: u8,
     size: PacketSize,
 ) -> Quiet
-    ensures { λ r. ⌜ Pieces.QuietBy r (now (times .exit)) (now (sizes .exit)) (now (flags .exit)) false (Answers.packetQueued (Answers.queueOf queued (now (times .entry)) (now (sizes .entry)) (now (flags .entry))) time lost size) ⌝ }
+    ensures { λ r. ⌜ Pieces.QuietBy r (now (times .exit)) (now (sizes .exit)) (now (flags .exit)) false (Split.packetQueued (Answers.queueOf queued (now (times .entry)) (now (sizes .entry)) (now (flags .entry))) time lost size) ⌝ }
 {
     if queued >= PLACES {
         return left(FULL, queued);
@@ -234,7 +235,7 @@ fn control_call(
     flags: &[u8; PLACES],
     call: Call,
 ) -> ControllerAnswer
-    ensures { λ r. ⌜ r ≡ Answers.callControlled controller (Answers.queueOf queued (now (times .entry)) (now (sizes .entry)) (now (flags .entry))) call ⌝ }
+    ensures { λ r. ⌜ r ≡ Split.callControlled controller (Answers.queueOf queued (now (times .entry)) (now (sizes .entry)) (now (flags .entry))) call ⌝ }
 {
     match call {
         Call::Estimate(bits) => controller.set_bandwidth_estimate(rate(bits)),
@@ -264,7 +265,7 @@ fn control(
     flags: &[u8; PLACES],
     line: Line,
 ) -> ControllerAnswer
-    ensures { λ r. ⌜ r ≡ Answers.lineControlled controller (Answers.queueOf queued (now (times .entry)) (now (sizes .entry)) (now (flags .entry))) line ⌝ }
+    ensures { λ r. ⌜ r ≡ Split.lineControlled controller (Answers.queueOf queued (now (times .entry)) (now (sizes .entry)) (now (flags .entry))) line ⌝ }
 {
     match line {
         Line::Taken(call) => control_call(controller, queued, times, sizes, flags, call),
@@ -282,7 +283,7 @@ fn called(
     flags: &[u8; PLACES],
     line: Line,
 ) -> LineAnswer
-    ensures { λ r. ⌜ r ≡ Pieces.calledBy (Answers.lineControlled (session .controller) (Answers.queueOf (session .queued) (now (times .entry)) (now (sizes .entry)) (now (flags .entry))) line) left ⌝ }
+    ensures { λ r. ⌜ r ≡ Pieces.calledBy (Split.lineControlled (session .controller) (Answers.queueOf (session .queued) (now (times .entry)) (now (sizes .entry)) (now (flags .entry))) line) left ⌝ }
 {
     let before = session.controller;
     let queued = session.queued;
@@ -311,7 +312,8 @@ fn turn(
     flags: &mut [u8; PLACES],
     line: Line,
 ) -> LineAnswer
-    ensures { λ r. ⌜ Answers.After r (now (times .exit)) (now (sizes .exit)) (now (flags .exit)) (session .reading) line (Answers.afterOf (Answers.machineOf session (now (times .entry)) (now (sizes .entry)) (now (flags .entry))) line) ⌝ }
+    requires { ⌜ session .reading ≡ Answers.readingOf (session .controller) ⌝ }
+    ensures { λ r. ⌜ Answers.After r (now (times .exit)) (now (sizes .exit)) (now (flags .exit)) (Answers.afterOf (Answers.machineOf session (now (times .entry)) (now (sizes .entry)) (now (flags .entry))) line) ⌝ }
 {
     let queued = session.queued;
     let quiet = quiet_line(queued, times, sizes, flags, line);
@@ -335,14 +337,15 @@ fn turn(
 }
 
 // The answer to a line, which comes without its newline, and what it leaves.
-pub fn answer_line(
+fn answer_line(
     session: Session,
     times: &mut [u64; PLACES],
     sizes: &mut [PacketSize; PLACES],
     flags: &mut [u8; PLACES],
     line: &[u8],
 ) -> LineAnswer
-    ensures { λ r. ⌜ Answers.After r (now (times .exit)) (now (sizes .exit)) (now (flags .exit)) (session .reading) (lineOf (now (line .entry))) (Answers.afterOf (Answers.machineOf session (now (times .entry)) (now (sizes .entry)) (now (flags .entry))) (lineOf (now (line .entry)))) ⌝ }
+    requires { ⌜ session .reading ≡ Answers.readingOf (session .controller) ⌝ }
+    ensures { λ r. ⌜ Answers.After r (now (times .exit)) (now (sizes .exit)) (now (flags .exit)) (Answers.afterOf (Answers.machineOf session (now (times .entry)) (now (sizes .entry)) (now (flags .entry))) (lineOf (now (line .entry)))) ⌝ }
 {
     let said = call_line::read_line(line);
     turn(session, times, sizes, flags, said)
@@ -472,7 +475,7 @@ fn whole_lines(
     out: &mut [u8],
     written: usize,
 ) -> Progress
-    requires { ⌜ (from ≤ length (now chunk)) × (written ≤ Feeding.rowWidth * from) × (Feeding.rowWidth * length (now chunk) ≤ length (now out)) ⌝ }
+    requires { ⌜ (from ≤ length (now chunk)) × (written ≤ Feeding.rowWidth * from) × (Feeding.rowWidth * length (now chunk) ≤ length (now out)) × (session .reading ≡ Answers.readingOf (session .controller)) ⌝ }
     ensures { λ r. ⌜ (from ≤ r .read) × (written ≤ r .written) × Pieces.At (now (chunk .entry)) (now (out .entry)) (Feeding.runs (Pieces.here Feeding.blank 0 session (now (times .entry)) (now (sizes .entry)) (now (flags .entry)) (take written (now (out .entry)))) (drop from (now (chunk .entry)))) (now (times .exit)) (now (sizes .exit)) (now (flags .exit)) (now (out .exit)) Feeding.blank 0 (r .session) (r .written) (r .read) ⌝ }
 {
     let mut controller = session.controller;
@@ -517,11 +520,12 @@ fn whole_lines(
 // ---- chunks
 
 // What is kept from chunk to chunk: the line so far, of which no more is looked at than `KEPT`
-// bytes, and the session.
+// bytes, the controller, and how many packets are queued.
 pub struct State {
     pub line: [u8; KEPT],
     pub len: usize,
-    pub session: Session,
+    pub controller: LossController,
+    pub queued: usize,
 }
 
 pub struct Fed {
@@ -534,16 +538,21 @@ pub struct Fed {
 pub fn start() -> State
     ensures { λ r. ⌜ r ≡ Feeding.fresh ⌝ }
 {
-    let controller = LossController::new();
-    let reading = read(controller);
     State {
         line: [0u8; KEPT],
         len: 0,
-        session: Session {
-            controller,
-            reading,
-            queued: 0,
-        },
+        controller: LossController::new(),
+        queued: 0,
+    }
+}
+
+fn session_of(controller: LossController, queued: usize) -> Session
+    ensures { λ r. ⌜ r ≡ record { controller = controller; reading = Answers.readingOf controller; queued = queued } ⌝ }
+{
+    Session {
+        controller,
+        reading: read(controller),
+        queued,
     }
 }
 
@@ -570,7 +579,8 @@ fn feed_all(
 {
     let mut line = state.line;
     let mut len = state.len;
-    let mut session = state.session;
+    let controller = state.controller;
+    let mut session = session_of(controller, state.queued);
     let mut w = 0;
     let mut i = 0;
     while i < chunk.len() {
@@ -593,9 +603,15 @@ fn feed_all(
             w = progress.written;
         }
     }
+    let controller = session.controller;
     Fed {
         taken: true,
-        state: State { line, len, session },
+        state: State {
+            line,
+            len,
+            controller,
+            queued: session.queued,
+        },
         written: w,
     }
 }
@@ -648,19 +664,22 @@ pub fn finish(
             written: 0,
         };
     }
-    let session = state.session;
+    let controller = state.controller;
+    let session = session_of(controller, state.queued);
     let done = answer_line(session, times, sizes, flags, &line[..len]);
     let answer = done.answer;
     let reading = answer.reading;
     let row = text(reading);
     put_row(answer.refusal, &row, out, 0);
     let next = done.session;
+    let controller = next.controller;
     Fed {
         taken: true,
         state: State {
             line: [0u8; KEPT],
             len: 0,
-            session: next,
+            controller,
+            queued: next.queued,
         },
         written: ROW,
     }
