@@ -5,7 +5,7 @@ use mathlib.Core.Bool.{cond}
 use mathlib.Core.List.{List, [], _∷_, _++_}
 use lib.Dec.{ltb}
 use lib.Ieee.{binary64, toBits}
-use lib.ListN.{take, set}
+use lib.ListN.{getD, take, set}
 use Rattle.bandwidth.specs.declared.Bitrate.{Bitrate}
 use Rattle.bandwidth.specs.declared.OptionBitrate.{OptionBitrate}
 use Rattle.bandwidth.specs.declared.OptionBitrate.the-variants.{Some, None}
@@ -120,13 +120,20 @@ readingOf c =
       «inherent_loss» = toBits binary64 (inherentLoss c);
     }
 
--- the columns after the refusal, and the newline: state (2), published (2), rate (20), inherent loss (20)
-unfoldable pub textOf : Reading → List ℕ
-textOf r = column 2 (r .state) ++ (column 2 (r .published) ++ (column 20 (r .rate) ++ (column 20 (r .«inherent_loss») ++ (10 ∷ []))))
+-- "refusal (2, 0 if none), state (2: 0 DelayBased, 1 Increasing, 2 Decreasing), published (2, 1 or 0), rate (20, 0 if none), inherent loss (20)"
+abbrev pub answerWidths : List ℕ
+answerWidths = 2 ∷ 2 ∷ 2 ∷ 20 ∷ 20 ∷ []
 
--- an answer: refusal (2), and the rest
+-- the number n in the answer's column j
+abbrev pub inColumn : ℕ → ℕ → List ℕ
+inColumn j n = column (getD answerWidths j 0) n
+
+-- the columns after the refusal, and the newline
+unfoldable pub textOf : Reading → List ℕ
+textOf r = inColumn 1 (r .state) ++ (inColumn 2 (r .published) ++ (inColumn 3 (r .rate) ++ (inColumn 4 (r .«inherent_loss») ++ (10 ∷ []))))
+
 unfoldable pub rowOf : ℕ → Reading → List ℕ
-rowOf refusal r = column 2 refusal ++ textOf r
+rowOf refusal r = inColumn 0 refusal ++ textOf r
 
 -- ---- a session: the controller, its reading, and how many packets are queued
 

@@ -11,7 +11,7 @@ use Rattle.call_line.specs.Line.{lineOf, widths}
 use Rattle.call_line.specs.declared.Line.{Line}
 use Rattle.call_list.specs.declared.State.{State}
 use Rattle.call_list.specs.declared.Fed.{Fed}
-use Rattle.call_list.specs.Answer.{Machine, queueOf, afterOf, readingOf, rowOf}
+use Rattle.call_list.specs.Answer.{Machine, answerWidths, queueOf, afterOf, readingOf, rowOf}
 
 -- a line in shape is as wide as its columns
 abbrev pub width : ℕ
@@ -21,9 +21,9 @@ width = total widths
 abbrev pub kept : ℕ
 kept = width + 1
 
--- the bytes of an answer
+-- the bytes of an answer: its columns, and the newline
 abbrev pub rowWidth : ℕ
-rowWidth = 47
+rowWidth = total answerWidths + 1
 
 abbrev pub blank : List ℕ
 blank = replicate kept 0

@@ -27,10 +27,24 @@ pub const PLACES: usize = packets::MOST_PACKETS_IN_REPORT;
 // A line's bytes that are kept: one more than a line in shape has.
 pub const KEPT: usize = call_line::LINE_WIDTH + 1;
 
-// An answer's columns and its newline; and those after the refusal
-pub const ROW: usize = 47;
+// An answer's columns: refusal, state, published, rate and inherent loss
+const WIDTHS: [usize; 5] = [2, 2, 2, 20, 20];
 
-const TEXT: usize = ROW - 2;
+const REFUSAL_WIDTH: usize = WIDTHS[0];
+
+// Those after the refusal: where each ends, and the newline
+const STATE_END: usize = WIDTHS[1];
+
+const PUBLISHED_END: usize = STATE_END + WIDTHS[2];
+
+const RATE_END: usize = PUBLISHED_END + WIDTHS[3];
+
+const INHERENT_LOSS_END: usize = RATE_END + WIDTHS[4];
+
+const TEXT: usize = INHERENT_LOSS_END + 1;
+
+// The bytes of an answer
+pub const ROW: usize = REFUSAL_WIDTH + TEXT;
 
 // The number of the refusal where the queue is full
 const FULL: u8 = 12;
@@ -366,10 +380,20 @@ fn text(reading: Reading) -> [u8; TEXT]
     ensures { λ r. ⌜ r ≡ Answers.textOf reading ⌝ }
 {
     let mut text = [b'\n'; TEXT];
-    put_column(&mut text, 0, 2, reading.state as u64);
-    put_column(&mut text, 2, 4, reading.published as u64);
-    put_column(&mut text, 4, 24, reading.rate);
-    put_column(&mut text, 24, 44, reading.inherent_loss);
+    put_column(&mut text, 0, STATE_END, reading.state as u64);
+    put_column(
+        &mut text,
+        STATE_END,
+        PUBLISHED_END,
+        reading.published as u64,
+    );
+    put_column(&mut text, PUBLISHED_END, RATE_END, reading.rate);
+    put_column(
+        &mut text,
+        RATE_END,
+        INHERENT_LOSS_END,
+        reading.inherent_loss,
+    );
     text
 }
 
@@ -378,10 +402,10 @@ fn put_row(refusal: u8, text: &[u8], out: &mut [u8], w: usize)
     requires { ⌜ (length (now text) ≡ 45) × (w + Feeding.rowWidth ≤ length (now out)) ⌝ }
     ensures { λ _. ⌜ now (out .exit) ≡ Pieces.laid w (column 2 refusal ++ now (text .entry)) (now (out .entry)) ⌝ }
 {
-    put_column(out, w, w + 2, refusal as u64);
+    put_column(out, w, w + REFUSAL_WIDTH, refusal as u64);
     let mut k = 0;
     while k < TEXT {
-        out[w + 2 + k] = text[k];
+        out[w + REFUSAL_WIDTH + k] = text[k];
         k += 1;
     }
 }
