@@ -16,7 +16,7 @@ use Rattle.call_line.specs.declared.Number.the-variants.{Value, Wrong}
 use Rattle.call_line.specs.declared.Fields.the-variants.{Read, Unreadable}
 use Rattle.call_line.specs.Column.{asciiSpace, asciiZero, isDigit, more, digitsOf, leadingSpaces, columnOf, start, total, cut}
 use Rattle.call_line.specs.Line.{widths, four, fieldsOf}
-use Rattle.call_line.proofs.Reading.{more-on, no-digit}
+use Rattle.call_line.proofs.Reading.{no-digit}
 
 -- ---- where columns start
 
@@ -56,7 +56,7 @@ spaces-fit (b ∷ s) = pick (spaces-fit s) (eqb b asciiSpace)
     pick h false = omega arith
 
 module _ (s : List ℕ) (from to : ℕ) (h : to ≤ length s) where
-  pub length-part : length (part from to s) ≡ to - from
+  length-part : length (part from to s) ≡ to - from
   length-part = simp (length-take, length-drop) (omega arith)
 
   part-at : (i : ℕ) → from ≤ i → i < to → getD (part from to s) (i - from) 0 ≡ getD s i 0
@@ -76,14 +76,6 @@ module _ (s : List ℕ) (from to : ℕ) (h : to ≤ length s) where
       ap (λ (k : ℕ). digitsOf (drop k (part from to s))) (sym e)
       ∙ ap digitsOf (drop-take n (to - from) (drop from s) ∙ ap (take (to - from - n)) (drop-drop n from s))
       ∙ ap (λ (k : ℕ). digitsOf (take k (drop (from + n) s))) w
-
-  -- one digit more
-  pub digit-more :
-      (i v : ℕ) → from ≤ i → i < to → isDigit (getD s i 0) ≡ true → v * 10 + (getD s i 0 - asciiZero) < 2 ^ 64
-      → more v (drop (i - from) (part from to s)) ≡ more (v * 10 + (getD s i 0 - asciiZero)) (drop (i + 1 - from) (part from to s))
-  digit-more i v l u =
-      let n : i + 1 - from ≡ i - from + 1 = omega arith in
-      rw n (rw (part-at i l u) at (more-on (part from to s) (i - from) v (rw length-part (omega arith))))
 
   pub no-digit-at : (i : ℕ) → from ≤ i → i < to → isDigit (getD s i 0) ≡ false → digitsOf (part from to s) ≡ Wrong
   no-digit-at i l u o =

@@ -3,11 +3,11 @@ use Prim.Native.Nat.{ℕ, zero, suc, _+_, _-_, _*_, _^_, _≤_, _<_}
 use mathlib.Core.Path.{_≡_, refl}
 use mathlib.Core.Bool.{Bool, true, false, cond, true≢false}
 use mathlib.Core.List.{List, [], _∷_}
-use native.Mathlib.Nat.{add-zero, pow-suc, pow-le-pow-right}
+use native.Mathlib.Nat.{add-zero}
 use native.Mathlib.Numerals.{add-one}
 use native.Mathlib.Omega.{arith}
 use borrow.Author.Tests.{leb-true, lt-ltb, le-ltb, eq-eqb, ne-eqb, eqb-true}
-use lib.Dec.{eqb, leb, lit<}
+use lib.Dec.{eqb, leb}
 use lib.ListN.{length, getD, drop, drop-of-length-le}
 use lib.Seq.{drop-cons}
 use Rattle.float.proofs.Both.{both}
@@ -67,16 +67,6 @@ pub digit-bounds : (b : ℕ) → isDigit b ≡ true → (asciiZero ≤ b) × (b 
 unfolding isDigit
 digit-bounds b e =
     let h = both (leb asciiZero b) (leb b asciiNine) e in (leb-true _ _ (h .0), leb-true _ _ (h .1))
-
--- 19 digits fit 64 bits: those before the place i make v, and b is there
-pub digits-fit :
-    (from i v b : ℕ) → from ≤ i → i < from + 19 → v < 10 ^ (i - from) → isDigit b ≡ true
-    → (v * 10 + (b - asciiZero) < 10 ^ (i + 1 - from)) × (v * 10 + (b - asciiZero) < 2 ^ 64)
-digits-fit from i v b l u f d =
-    let n : i + 1 - from ≡ suc (i - from) = omega arith in
-    let w : v * 10 + (b - asciiZero) < 10 ^ suc (i - from) = omega (arith, digit-bounds b d, pow-suc 10 (i - from)) in
-    let m : 10 ^ suc (i - from) ≤ 10 ^ 19 = pow-le-pow-right (lit< tt) {j = 19} (omega arith) in
-    (rw n w, omega arith)
 
 module _ (s : List ℕ) (i v : ℕ) (h : i < length s) (d : isDigit (getD s i 0) ≡ true) where
   pub more-over : 2 ^ 64 ≤ v * 10 + (getD s i 0 - asciiZero) → more v (drop i s) ≡ Wrong

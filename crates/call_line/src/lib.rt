@@ -1,10 +1,10 @@
 // A call list's lines and columns: what a line says, and a number written in a column.
 ghost use mathlib.Core.Path.{_≡_};
 ghost use mathlib.Core.Bool.{true};
-ghost use Prim.Native.Nat.{_-_, _≤_};
-ghost use lib.ListN.{length, drop};
+ghost use Prim.Native.Nat.{_≤_};
+ghost use lib.ListN.{length};
 ghost use Rattle.packets.specs.Summary.{largestPacket};
-ghost use Rattle.call_line.specs.Column.{isDigit, more, leadingSpaces, digitsOf, column};
+ghost use Rattle.call_line.specs.Column.{isDigit, leadingSpaces, digitsOf, column};
 ghost use Rattle.call_line.specs.Line.{alone, flagged, allowed, fieldsOf, inTable, rateCode, unlessRefused, alrOf, capacityOf, packetOf};
 ghost use Rattle.call_line.specs.Line.{reportOf, callOf, lineOf};
 use bandwidth::Bitrate;
@@ -19,6 +19,9 @@ pub const LINE_WIDTH: usize = WIDTHS[0] + WIDTHS[1] + WIDTHS[2] + WIDTHS[3];
 
 // The largest PacketSize
 const MOST_BYTES: u64 = 65_535;
+
+// The most that may stand before a number's last digit
+const MOST_TENS: u64 = u64::MAX / 10;
 
 // What a column says.
 enum Number {
@@ -78,29 +81,37 @@ fn leading_spaces(column: &[u8]) -> usize
     i
 }
 
-// The number in a column's digits, `tens` being what those before the last make. Wrong without
-// digits, with a zero before others, and above 2^64 - 1.
-fn read_number(digits: &[u8], tens: u64) -> Number
-    requires { ⌜ more 0 (now digits) ≡ more tens (drop (length (now digits) - 1) (now digits)) ⌝ }
+// The number in a column's digits. Wrong without digits, with a zero before others, with a byte that
+// is no digit, and above 2^64 - 1.
+fn read_number(digits: &[u8]) -> Number
     ensures { λ r. ⌜ r ≡ digitsOf (now (digits .entry)) ⌝ }
 {
     if digits.len() == 0 {
         return Number::Wrong;
     }
-    let last = digits.len() - 1;
-    if !is_digit(digits[last]) {
-        return Number::Wrong;
-    }
-    if last > 0 {
+    if digits.len() > 1 {
         if digits[0] == b'0' {
             return Number::Wrong;
         }
     }
-    let digit = (digits[last] - b'0') as u64;
-    if tens > (u64::MAX - digit) / 10 {
-        return Number::Wrong;
+    let mut value: u64 = 0;
+    let mut i = 0;
+    while i < digits.len() {
+        let byte = digits[i];
+        i += 1;
+        if !is_digit(byte) {
+            return Number::Wrong;
+        }
+        let digit = (byte - b'0') as u64;
+        if value > MOST_TENS {
+            return Number::Wrong;
+        }
+        if digit > u64::MAX - value * 10 {
+            return Number::Wrong;
+        }
+        value = value * 10 + digit;
     }
-    Number::Value(tens * 10 + digit)
+    Number::Value(value)
 }
 
 // The first wrong column ends the reading.
@@ -116,18 +127,14 @@ fn read_fields(line: &[u8]) -> Fields
     'columns: while k < COLUMNS {
         let to = from + WIDTHS[k];
         let first = from + leading_spaces(&line[from..to]);
-        let mut tens: u64 = 0;
         let mut i = first;
-        // A column has at most 20 places, so that the digits before the last do not pass a u64.
-        while i + 1 < to {
-            let byte = line[i];
-            if !is_digit(byte) {
+        while i < to {
+            if !is_digit(line[i]) {
                 break 'columns;
             }
-            tens = tens * 10 + (byte - b'0') as u64;
             i += 1;
         }
-        match read_number(&line[first..to], tens) {
+        match read_number(&line[first..to]) {
             Number::Value(value) => {
                 values[k] = value;
             }

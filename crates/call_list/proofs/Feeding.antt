@@ -30,7 +30,7 @@ use Rattle.call_list.proofs.Laying.{length-row, take-laid, drop-laid, l
 -- no line ended in them
 pub record Unended (r : Run) (i : ℕ) (s : List ℕ) (n : Next) : Type 0 where
   pub all : n .read ≡ i + length s
-  pub run : runs r s ≡ record { line = n .line; len = n .len; machine = r .machine; reading = r .reading; out = r .out }
+  pub run : runs r s ≡ record { line = n .line; len = n .len; machine = r .machine; out = r .out }
 
 -- one did
 pub record Ended (r : Run) (i : ℕ) (s : List ℕ) (n : Next) : Type 0 where
@@ -124,7 +124,7 @@ runs-end r s i h = rw (drop-of-length-le s h)
 -- a line told is an answer given
 told-here :
     (line : List ℕ) (len : ℕ) (s : Session) (ts ss fs out : List ℕ) (l : Line) (a : LineAnswer) (ts' ss' fs' : List ℕ)
-    → After a ts' ss' fs' (s .reading) l (afterOf (machineOf s ts ss fs) l)
+    → After a ts' ss' fs' (afterOf (machineOf s ts ss fs) l)
     → told (here line len s ts ss fs out) l ≡ here blank 0 (a .session) ts' ss' fs' (out ++ rowOf (a .answer .refusal) (a .answer .reading))
 told-here line len s ts ss fs out l a ts' ss' fs' t = rw (t .answer, t .times, t .sizes, t .flags)
 
@@ -141,7 +141,7 @@ module _
     -- the line l ends before the byte j, is answered by a, and its row is written
     pub one-line :
         (l : Line) (j : ℕ) → i < j → j ≤ length chunk → runs now (drop i chunk) ≡ runs (told now l) (drop j chunk)
-        → (a : LineAnswer) (ts' ss' fs' out' row : List ℕ) → After a ts' ss' fs' (s .reading) l (afterOf (machineOf s ts ss fs) l)
+        → (a : LineAnswer) (ts' ss' fs' out' row : List ℕ) → After a ts' ss' fs' (afterOf (machineOf s ts ss fs) l)
         → row ≡ textOf (a .answer .reading) → out' ≡ laid w (column 2 (a .answer .refusal) ++ row) out
         → At chunk out₀ end ts' ss' fs' out' blank 0 (a .session) (w + rowWidth) j
     unfolding rowOf
@@ -158,6 +158,7 @@ module _
           rest =
               ap (drop (w + rowWidth)) z ∙ drop-laid w rowWidth y out (length-row _ _) row-fits
               ∙ sym (drop-drop rowWidth w out) ∙ ap (drop rowWidth) (h .rest) ∙ drop-drop rowWidth w out₀;
+          reading = rw (t .answer);
           same =
               h .same ∙ run
               ∙ ap (λ (u : Run). runs u (drop j chunk)) (told-here line len s ts ss fs (take w out) l a ts' ss' fs' t)
@@ -192,6 +193,7 @@ module _
               out-kept = h .out-kept;
               room = omega (arith, z, m, h .room);
               rest = h .rest;
+              reading = h .reading;
               same = h .same ∙ x .run ∙ sym (runs-end _ chunk (n .read) (omega (arith, z)));
             },
           )
@@ -226,6 +228,7 @@ go-on chunk out₀ end ts ss fs out s w i ts' ss' fs' out' s' w' i' h l g =
       out-kept = g .out-kept ∙ h .out-kept;
       room = g .room;
       rest = g .rest ∙ rw k (sym (drop-drop (w' - w) w out) ∙ ap (drop (w' - w)) (h .rest) ∙ drop-drop (w' - w) w out₀);
+      reading = g .reading;
       same = h .same ∙ g .same;
     }
 
@@ -233,7 +236,8 @@ go-on chunk out₀ end ts ss fs out s w i ts' ss' fs' out' s' w' i' h l g =
 pub all-read :
     (chunk out₀ : List ℕ) (end : Run) (ts ss fs out line : List ℕ) (len : ℕ) (s : Session) (w i : ℕ)
     → At chunk out₀ end ts ss fs out line len s w i → length chunk ≤ i → rowWidth * length chunk ≤ length out₀
-    → FedBy (record { taken = true; state = record { line = line; len = len; session = s }; written = w }) ts ss fs out end out₀
+    → FedBy (record { taken = true; state = record { line = line; len = len; controller = s .controller; queued = s .queued }; written = w }) ts ss
+    fs out end out₀
 all-read chunk out₀ end ts ss fs out line len s w i h z big =
     let k : length (take w out) ≡ w = length-take-le w out (omega (arith, h .room, h .out-kept, h .read, big)) in
     rw (h .same ∙ runs-end (here line len s ts ss fs (take w out)) chunk i z)
@@ -282,14 +286,16 @@ module _ (p : State) (ts₀ ss₀ fs₀ o₀ : List ℕ) where
   none-finished e z = record { taken = sym e; by = rw e (simp (eq-eqb _ _ z) (none-fed true)) }
 
   pub line-finished :
-      (a : LineAnswer) (ts ss fs o : List ℕ) → roomy (p .len) 1 (length o₀) ≡ true → (p .len ≡ 0 → ⊥)
-      → After a ts ss fs (p .session .reading) (lineOf (take (p .len) (p .line)))
-      (afterOf (machineOf (p .session) ts₀ ss₀ fs₀) (lineOf (take (p .len) (p .line))))
+      (s : Session) (a : LineAnswer) (ts ss fs o : List ℕ) → roomy (p .len) 1 (length o₀) ≡ true → (p .len ≡ 0 → ⊥)
+      → s .controller ≡ p .controller → s .queued ≡ p .queued
+      → After a ts ss fs (afterOf (machineOf s ts₀ ss₀ fs₀) (lineOf (take (p .len) (p .line))))
       → o ≡ laid 0 (rowOf (a .answer .refusal) (a .answer .reading)) o₀
-      → Finishes (record { taken = true; state = record { line = blank; len = 0; session = a .session }; written = rowWidth }) ts ss fs o p ts₀ ss₀ fs₀ o₀
-  line-finished a ts ss fs o e n t q =
+      → Finishes
+      (record { taken = true; state = record { line = blank; len = 0; controller = a .session .controller; queued = a .session .queued }; written = rowWidth })
+      ts ss fs o p ts₀ ss₀ fs₀ o₀
+  line-finished s a ts ss fs o e n z y t q =
       let row = rowOf (a .answer .refusal) (a .answer .reading) in
-      let d = told-here (p .line) (p .len) (p .session) ts₀ ss₀ fs₀ [] (lineOf (take (p .len) (p .line))) a ts ss fs t in
+      let d = rw (z, y) at (told-here (p .line) (p .len) s ts₀ ss₀ fs₀ [] (lineOf (take (p .len) (p .line))) a ts ss fs t) in
       record {
         taken = sym e;
         by =

@@ -57,7 +57,7 @@ run-all (b ∷ a) t r c l p =
     let h : r .len < kept = omega arith in
     let x : take (r .len + 1) (set (r .line) (r .len) b) ++ a ≡ take (r .len) (r .line) ++ (b ∷ a) =
     rw (add-one, take-suc-set (r .line) (r .len) b (omega arith)) (append-assoc (take (r .len) (r .line)) (b ∷ []) a) in
-    let q : Run = record { line = set (r .line) (r .len) b; len = r .len + 1; machine = r .machine; reading = r .reading; out = r .out } in
+    let q : Run = record { line = set (r .line) (r .len) b; len = r .len + 1; machine = r .machine; out = r .out } in
     let k : pushed r b ≡ q = rw (lt-ltb (r .len) kept h) in
     run-on r b (a ++ (10 ∷ t)) (ne-eqb b 10 n) ∙ ap (λ (u : Run). runs u (a ++ (10 ∷ t))) k
     ∙ run-all a t q (λ j m e. c (suc j) (omega arith) e) (omega arith) (simp length-set p) ∙ rw x

@@ -1,5 +1,5 @@
 -- Fed in any chunks, the program writes the answers to the lines of the whole input. Assumes nothing.
-use Prim.Native.Nat.{ℕ, zero, suc, _+_, _*_, _≤_, _<_, min}
+use Prim.Native.Nat.{ℕ, zero, suc, _+_, _*_, _/_, _≤_, _<_, min}
 use mathlib.Core.Path.{_≡_, refl, sym, ap, _∙_}
 use mathlib.Core.Bool.{Bool, true, false, cond}
 use mathlib.Core.List.{List, [], _∷_, _++_, append-assoc, append-nil}
@@ -7,20 +7,20 @@ use native.Mathlib.Decide.{decLe}
 use native.Mathlib.Numerals.{add-one}
 use native.Mathlib.Omega.{arith}
 use borrow.Author.Tests.{eq-eqb, ne-eqb, ltb-true, ltb-false}
-use lib.Dec.{eqb, ltb}
-use lib.ListN.{length, take, drop, set, length-take, length-append, length-set}
+use lib.Dec.{eqb, ltb, lit≤}
+use lib.ListN.{length, take, drop, set, replicate, length-take, length-append, length-set, length-replicate}
 use lib.Seq.{take-append-add, take-nil, take-all, take-append-le, take-suc-set, take-at, length-take-le}
 use Rattle.call_line.specs.Line.{lineOf}
-use Rattle.call_line.specs.declared.Line.{Line}
 use Rattle.call_line.proofs.Clear.{other-length}
-use Rattle.call_list.specs.declared.Reading.{Reading}
 use Rattle.call_list.specs.declared.State.{State}
 use Rattle.call_list.specs.declared.Fed.{Fed}
-use Rattle.call_list.specs.Answer.{Machine, Answered, calls, lineControlled, lineQueued, afterOf, readingOf, readAfter, rowOf}
-use Rattle.call_list.specs.Feed.{Run, kept, rowWidth, pushed, told, ended, step, runs, finished, startOf, fresh, FedBy, roomy}
+use Rattle.call_list.specs.Answer.{Machine, readingOf}
+use Rattle.call_list.specs.Feed.{Run, kept, rowWidth, pushedLen, pushed, told, ended, step, runs, finished, startOf, fresh, FedBy, Feeds, Finishes, roomy}
 use Rattle.call_list.proofs.Laying.{length-row}
-use Rattle.call_list.specs.Whole.{lastLine, linesFrom, linesOf, answeredLine, answerRow, answersTo, joined, none, freshMachine, answers, Writes}
-use Rattle.call_list.specs.Whole.{last, more, Program}
+use Rattle.call_list.specs.Whole.{lastLine, linesFrom, linesOf, answeredLine, answerRow, answersTo, joined, none, freshMachine, answers}
+use Rattle.call_list.specs.Whole.{Reached, started, fed, Program}
+use Rattle.call_list.specs.Whole.{ended as whole-input}
+use Rattle.call_list.proofs.Feeding.{room-yes}
 
 -- ---- a line's first bytes
 
@@ -33,36 +33,13 @@ cut-line l = pick (decLe (length l) kept)
     pick (no n) =
         other-length (take kept l) (λ e. omega (arith, n, length-take kept l)) ∙ sym (other-length l (λ e. omega (arith, n)))
 
--- ---- the reading
-
--- after every line it is the controller's, if it was before
-pub reading-kept :
-    (m : Machine) (l : Line) (r : Reading) → r ≡ readingOf (m .controller)
-    → readAfter r l (afterOf m l .machine .controller) ≡ readingOf (afterOf m l .machine .controller)
-unfolding afterOf
-reading-kept m l r e = pick (calls l)
-  where
-    new : Bool → Answered
-    new t =
-        cond t
-        (record {
-          refusal = lineControlled (m .controller) (m .queue) l .refusal;
-          machine = record { controller = lineControlled (m .controller) (m .queue) l .controller; queue = lineQueued (m .queue) l .queue };
-        })
-        (record { refusal = lineQueued (m .queue) l .refusal; machine = record { controller = m .controller; queue = lineQueued (m .queue) l .queue } })
-
-    pick : (t : Bool) → cond t (readingOf (new t .machine .controller)) r ≡ readingOf (new t .machine .controller)
-    pick true = refl
-    pick false = e
-
 -- ---- a run in the middle of a line
 
--- the run r has read l of the present line, and has the controller's reading
+-- the run r has read l of the present line
 record Reads (r : Run) (l : List ℕ) : Type 0 where
   short : r .len ≤ kept
   places : length (r .line) ≡ kept
   text : take (r .len) (r .line) ≡ take kept l
-  reading : r .reading ≡ readingOf (r .machine .controller)
 
 -- how much that is
 count : (r : Run) (l : List ℕ) → Reads r l → r .len ≡ min kept (length l)
@@ -83,7 +60,6 @@ reads-byte r l b h = pick (ltb (r .len) kept) refl
           line = cond t (set (r .line) (r .len) b) (r .line);
           len = cond t (r .len + 1) (r .len);
           machine = r .machine;
-          reading = r .reading;
           out = r .out;
         })
         (l ++ (b ∷ []))
@@ -98,12 +74,11 @@ reads-byte r l b h = pick (ltb (r .len) kept) refl
               (take-suc-set (r .line) (r .len) b (omega (arith, h .places))
               ∙ ap (λ (x : List ℕ). x ++ (b ∷ [])) (h .text ∙ take-all kept l (omega arith))
               ∙ sym (take-all kept (l ++ (b ∷ [])) (omega (arith, length-append l (b ∷ [])))));
-          reading = h .reading;
         }
     pick false e =
         let k : kept ≤ r .len = ltb-false (r .len) kept e in
         let m : kept ≤ length l = omega (arith, count r l h) in
-        record { short = h .short; places = h .places; text = h .text ∙ sym (take-append-le kept l (b ∷ []) m); reading = h .reading }
+        record { short = h .short; places = h .places; text = h .text ∙ sym (take-append-le kept l (b ∷ []) m) }
 
 -- its end
 module _ (r : Run) (l : List ℕ) (h : Reads r l) where
@@ -111,12 +86,10 @@ module _ (r : Run) (l : List ℕ) (h : Reads r l) where
   ended-is = ap (told r) (same-line r l h)
 
   told-out : told r (lineOf l) .out ≡ r .out ++ answerRow (answeredLine (r .machine) l)
-  told-out =
-      ap (λ (x : Reading). r .out ++ rowOf (answeredLine (r .machine) l .refusal) x) (reading-kept (r .machine) (lineOf l) (r .reading) (h .reading))
+  told-out = refl
 
   told-reads : Reads (told r (lineOf l)) []
-  told-reads =
-      record { short = omega arith; places = refl; text = refl; reading = reading-kept (r .machine) (lineOf l) (r .reading) (h .reading) }
+  told-reads = record { short = omega arith; places = refl; text = refl }
 
 -- ---- byte by byte, and line by line
 
@@ -151,7 +124,7 @@ flow (b ∷ s) r l h = pick (flow s) (eqb b 10)
 
 -- what was written before stands before what is written next
 abbrev onto : List ℕ → Run → Run
-onto o q = record { line = q .line; len = q .len; machine = q .machine; reading = q .reading; out = o ++ q .out }
+onto o q = record { line = q .line; len = q .len; machine = q .machine; out = o ++ q .out }
 
 step-onto : (r : Run) (o : List ℕ) (b : ℕ) → step (onto o r) b ≡ onto o (step r b)
 unfolding step
@@ -180,7 +153,7 @@ runs-append (b ∷ s) t r = runs-append s t (step r b)
 
 -- what a call leaves: its bytes, and where the next call starts
 abbrev cleared : Run → Run
-cleared r = record { line = r .line; len = r .len; machine = r .machine; reading = r .reading; out = [] }
+cleared r = record { line = r .line; len = r .len; machine = r .machine; out = [] }
 
 module _ (f : Fed) (ts ss fs out out₀ : List ℕ) (r : Run) (b : FedBy f ts ss fs out r out₀) where
   written-is : take (f .written) out ≡ r .out
@@ -189,36 +162,158 @@ module _ (f : Fed) (ts ss fs out out₀ : List ℕ) (r : Run) (b : FedBy f ts ss
   next-is : startOf (f .state) ts ss fs ≡ cleared r
   next-is = rw (b .state, b .times, b .sizes, b .flags)
 
-back : (r : Run) → onto (r .out) (cleared r) ≡ r
-back r = rw (append-nil (r .out))
+joined-append : (cs : List (List ℕ)) (c : List ℕ) → joined (cs ++ (c ∷ [])) ≡ joined cs ++ c
+unfolding joined
+joined-append [] c = append-nil c
+joined-append (b ∷ cs) c = ap (λ (x : List ℕ). b ++ x) (joined-append cs c) ∙ sym (append-assoc b (joined cs) c)
 
-writes :
-    {p : State} {ts ss fs w : List ℕ} {cs : List (List ℕ)} → Writes p ts ss fs cs w
-    → w ≡ finished (runs (startOf p ts ss fs) (joined cs)) .out
+abbrev start : Run
+start = startOf fresh none none none
+
+-- the chunks lead to where the program is, with what it has written
+runs-to : {cs : List (List ℕ)} {w : List ℕ} {p : State} {ts ss fs : List ℕ} → Reached cs w p ts ss fs → runs start (joined cs) ≡ onto w (startOf p ts ss fs)
 unfolding joined runs
-writes {p} {ts} {ss} {fs} (last f ts' ss' fs' out out₀ b t) =
-    let k : roomy (p .len) 1 (length out₀) ≡ true = sym (b .taken) ∙ t in
-    let c = rw k at (b .by) in
-    written-is f ts' ss' fs' out out₀ (finished (startOf p ts ss fs)) c
-writes {p} {ts} {ss} {fs} (more {w = v} {cs = cs} f ts' ss' fs' s out out₀ b t x) =
-    let k : roomy (p .len) (length s) (length out₀) ≡ true = sym (b .taken) ∙ t in
-    let c = rw k at (b .by) in
-    let r = runs (startOf p ts ss fs) s in
-    ap (λ (x : List ℕ). x ++ v) (written-is f ts' ss' fs' out out₀ r c)
-    ∙ ap (λ (x : List ℕ). r .out ++ x) (writes x)
-    ∙ ap (λ (q : Run). r .out ++ finished (runs q (joined cs)) .out) (next-is f ts' ss' fs' out out₀ r c)
-    ∙ sym (finished-onto (runs (cleared r) (joined cs)) (r .out))
-    ∙ ap (λ (q : Run). finished q .out) (sym (runs-onto (joined cs) (cleared r) (r .out)))
-    ∙ ap (λ (q : Run). finished (runs q (joined cs)) .out) (back r)
-    ∙ ap (λ (q : Run). finished q .out) (sym (runs-append s (joined cs) (startOf p ts ss fs)))
+runs-to started = refl
+runs-to (fed {chunks = cs} {w = w} {p = p} {ts = ts} {ss = ss} {fs = fs} f ts' ss' fs' c out out₀ x b t) =
+    let k : roomy (p .len) (length c) (length out₀) ≡ true = sym (b .taken) ∙ t in
+    let d = rw k at (b .by) in
+    let r = runs (startOf p ts ss fs) c in
+    ap (runs start) (joined-append cs c)
+    ∙ runs-append (joined cs) c start
+    ∙ ap (λ (q : Run). runs q c) (runs-to x)
+    ∙ runs-onto c (startOf p ts ss fs) w
+    ∙ sym
+    (ap (λ (q : Run). onto (w ++ take (f .written) out) q) (next-is f ts' ss' fs' out out₀ r d)
+    ∙ ap (λ (u : List ℕ). onto (w ++ u) (cleared r)) (written-is f ts' ss' fs' out out₀ r d)
+    ∙ rw (append-nil (w ++ r .out)))
+
+-- the whole input's answers, byte by byte
+whole : (input : List ℕ) → answers input ≡ finished (runs start input) .out
+unfolding answers
+whole input = sym (flow input start [] (record { short = omega arith; places = refl; text = refl }))
 
 -- "The program reads a call list from standard input": however the input is cut into chunks, what is written is the answers to its lines
 pub in-chunks : (chunks : List (List ℕ)) (w : List ℕ) → Program chunks w → w ≡ answers (joined chunks)
-unfolding answers
-in-chunks chunks w x =
-    writes x
-    ∙ flow (joined chunks) (startOf fresh none none none) []
-    (record { short = omega arith; places = refl; text = refl; reading = refl })
+in-chunks chunks _ (whole-input {w = w} {p = p} {ts = ts} {ss = ss} {fs = fs} f ts' ss' fs' out out₀ x b t) =
+    let k : roomy (p .len) 1 (length out₀) ≡ true = sym (b .taken) ∙ t in
+    ap (λ (u : List ℕ). w ++ u) (written-is f ts' ss' fs' out out₀ (finished (startOf p ts ss fs)) (rw k at (b .by)))
+    ∙ sym (finished-onto (startOf p ts ss fs) w)
+    ∙ ap (λ (q : Run). finished q .out) (sym (runs-to x))
+    ∙ sym (whole (joined chunks))
+
+-- and what is written before its end is the beginning of the answers, whatever follows
+pub so-far :
+    {chunks : List (List ℕ)} {w : List ℕ} {p : State} {ts ss fs : List ℕ} → Reached chunks w p ts ss fs
+    → (rest : List ℕ) → take (length w) (answers (joined chunks ++ rest)) ≡ w
+so-far {chunks} {w} {p} {ts} {ss} {fs} x rest =
+    let r = startOf p ts ss fs in
+    ap (take (length w))
+    (whole (joined chunks ++ rest)
+    ∙ ap (λ (q : Run). finished q .out) (runs-append (joined chunks) rest start ∙ ap (λ (q : Run). runs q rest) (runs-to x) ∙ runs-onto rest r w)
+    ∙ finished-onto (runs r rest) w)
+    ∙ take-at w (finished (runs r rest) .out) (length w) refl
+
+-- ---- every list of chunks has such a run
+
+pushed-short : (n : ℕ) → n ≤ kept → pushedLen n ≤ kept
+pushed-short n h = pick (ltb n kept) refl
+  where
+    pick : (t : Bool) → ltb n kept ≡ t → cond t (n + 1) n ≤ kept
+    pick true e = let k : n < kept = ltb-true n kept e in omega arith
+    pick false e = h
+
+step-short : (r : Run) (b : ℕ) → r .len ≤ kept → step r b .len ≤ kept
+unfolding step
+step-short r b h = pick (eqb b 10)
+  where
+    pick : (t : Bool) → cond t (ended r) (pushed r b) .len ≤ kept
+    pick true = omega arith
+    pick false = pushed-short (r .len) h
+
+runs-short : (s : List ℕ) (r : Run) → r .len ≤ kept → runs r s .len ≤ kept
+unfolding runs
+runs-short [] r h = h
+runs-short (b ∷ s) r h = runs-short s (step r b) (step-short r b h)
+
+-- so wherever the program is, it takes a chunk if the buffer has room
+pub reached-short : {cs : List (List ℕ)} {w : List ℕ} {p : State} {ts ss fs : List ℕ} → Reached cs w p ts ss fs → p .len ≤ kept
+reached-short {cs} x = rw (ap (λ (q : Run). q .len) (runs-to x)) at (runs-short (joined cs) start (omega arith))
+
+-- what a call leaves that takes the program to the run r
+abbrev left : Run → Fed
+left r =
+    record {
+      taken = true;
+      state = record { line = r .line; len = r .len; controller = r .machine .controller; queued = r .machine .queue .count };
+      written = length (r .out);
+    }
+
+abbrev buffer : Run → List ℕ → List ℕ
+buffer r out₀ = r .out ++ drop (length (r .out)) out₀
+
+left-by :
+    (r : Run) (out₀ : List ℕ)
+    → FedBy (left r) (r .machine .queue .times) (r .machine .queue .sizes) (r .machine .queue .flags) (buffer r out₀) r out₀
+left-by r out₀ = record { state = refl; written = refl; times = refl; sizes = refl; flags = refl; out = refl }
+
+module _ (p : State) (ts ss fs out₀ : List ℕ) (h : p .len ≤ kept) where
+  pub feeds :
+      (c : List ℕ) → length c ≤ length out₀ / rowWidth
+      → (let r = runs (startOf p ts ss fs) c in
+      let q = r .machine .queue in
+      Feeds (left r) (q .times) (q .sizes) (q .flags) (buffer r out₀) p ts ss fs c out₀)
+  feeds c l =
+      let k = room-yes (p .len) (length c) (length out₀) h l in
+      record { taken = sym k; by = rw k (left-by (runs (startOf p ts ss fs) c) out₀) }
+
+  pub finishes :
+      rowWidth ≤ length out₀
+      → (let r = finished (startOf p ts ss fs) in
+      let q = r .machine .queue in
+      Finishes (left r) (q .times) (q .sizes) (q .flags) (buffer r out₀) p ts ss fs out₀)
+  finishes l =
+      let k = room-yes (p .len) 1 (length out₀) h (omega arith) in
+      record { taken = sym k; by = rw k (left-by (finished (startOf p ts ss fs)) out₀) }
+
+-- some run that was fed the chunks
+record Somewhere (chunks : List (List ℕ)) : Type 0 where
+  w : List ℕ
+  state : State
+  times : List ℕ
+  sizes : List ℕ
+  flags : List ℕ
+  reached : Reached chunks w state times sizes flags
+
+abbrev room : ℕ → List ℕ
+room n = replicate (rowWidth * n) 0
+
+one-more : (chunks : List (List ℕ)) (c : List ℕ) → Somewhere chunks → Somewhere (chunks ++ (c ∷ []))
+one-more chunks c x =
+    let o = room (length c) in
+    let r = runs (startOf (x .state) (x .times) (x .sizes) (x .flags)) c in
+    let l : length o ≡ rowWidth * length c = length-replicate (rowWidth * length c) 0 in
+    record {
+      w = x .w ++ take (length (r .out)) (buffer r o);
+      state = left r .state;
+      times = r .machine .queue .times;
+      sizes = r .machine .queue .sizes;
+      flags = r .machine .queue .flags;
+      reached = fed (left r) _ _ _ c (buffer r o) o (x .reached) (feeds _ _ _ _ o (reached-short (x .reached)) c (omega arith)) refl;
+    }
+
+onward : (cs chunks : List (List ℕ)) → Somewhere chunks → Somewhere (chunks ++ cs)
+onward [] chunks x = rw (append-nil chunks) x
+onward (c ∷ cs) chunks x = rw (append-assoc chunks (c ∷ []) cs) at (onward cs (chunks ++ (c ∷ [])) (one-more chunks c x))
+
+-- whatever the chunks, the program answers them: with the answers to the lines of the whole input
+pub every-list : (chunks : List (List ℕ)) → Program chunks (answers (joined chunks))
+every-list chunks =
+    let x =
+    onward chunks []
+    (record { w = []; state = fresh; times = none; sizes = none; flags = none; reached = started }) in
+    let p : Program chunks _ =
+    whole-input _ _ _ _ _ (room 1) (x .reached) (finishes (x .state) (x .times) (x .sizes) (x .flags) (room 1) (reached-short (x .reached)) (lit≤ tt)) refl in
+    rw (in-chunks chunks _ p) at p
 
 -- ---- the answer to a line hangs on the lines up to it alone
 

@@ -18,8 +18,9 @@ use Rattle.call_line.specs.declared.Line.the-variants.{Taken, Refused, ReportRe
 use Rattle.call_list.specs.declared.Reading.{Reading}
 use Rattle.call_list.specs.declared.Session.{Session}
 use Rattle.call_list.specs.declared.Quiet.{Quiet}
-use Rattle.call_list.specs.Answer.{Queue, places, queueOf, machineOf, callQueued, lineQueued, callCalls, calls, callControlled, lineControlled}
-use Rattle.call_list.specs.Answer.{readingOf, afterOf, After}
+use Rattle.call_list.specs.Answer.{Queue, Machine, Answered, places, withPacket, queueOf, machineOf, unmoved, called, packetAfter, callAfter}
+use Rattle.call_list.specs.Answer.{afterOf, readingOf, After}
+use Rattle.call_list.specs.Split.{Queued, left, packetQueued, callQueued, lineQueued, callCalls, calls, callControlled, lineControlled}
 use Rattle.call_list.specs.Pieces.{QuietBy, calledBy, held, sameReading}
 
 -- ---- the queue
@@ -30,6 +31,41 @@ held-take n s h = pick (ltb places n) refl
     pick : (t : Bool) → ltb places n ≡ t → take (cond t places n) s ≡ take n s
     pick true e = take-all places s (omega arith) ∙ sym (take-all n s (let k : places < n = ltb-true places n e in omega arith))
     pick false e = refl
+
+-- ---- the two parts of a line
+
+-- what they make: of a line that calls the controller its answer, and of another the refusal
+abbrev parts : Machine → Bool → ControllerAnswer → Queued → Answered
+parts m t controlled queued =
+    cond t (called controlled (queued .queue)) (unmoved (record { controller = m .controller; queue = queued .queue }) (queued .refusal))
+
+call-after-is :
+    (m : Machine) (call : Call) → callAfter m call ≡ parts m (callCalls call) (callControlled (m .controller) (m .queue) call) (callQueued (m .queue) call)
+unfolding callAfter callCalls callControlled callQueued packetAfter packetQueued
+call-after-is m (Packet time lost size) = pick (ltb (m .queue .count) places)
+  where
+    pick :
+        (t : Bool)
+        → cond t (unmoved (record { controller = m .controller; queue = withPacket (m .queue) time lost size }) 0) (unmoved m 12)
+        ≡ (let q = cond t (left 0 (withPacket (m .queue) time lost size)) (left 12 (m .queue)) in
+        unmoved (record { controller = m .controller; queue = q .queue }) (q .refusal))
+    pick true = refl
+    pick false = refl
+call-after-is m Read = refl
+call-after-is m (Report delay) = refl
+call-after-is m (Estimate rate) = refl
+call-after-is m (Acknowledged rate) = refl
+call-after-is m (AlrOn start) = refl
+call-after-is m AlrOff = refl
+call-after-is m (CapacityIs rate) = refl
+call-after-is m CapacityNone = refl
+
+-- so a line that does not call the controller leaves it, and its reading
+after-is : (m : Machine) (l : Line) → afterOf m l ≡ parts m (calls l) (lineControlled (m .controller) (m .queue) l) (lineQueued (m .queue) l)
+unfolding afterOf calls lineControlled lineQueued
+after-is m (Taken call) = call-after-is m call
+after-is m (Refused refusal) = refl
+after-is m (ReportRefused refusal) = refl
 
 -- the columns of the queue are the same
 record Same (a b : Queue) : Type 0 where
@@ -68,9 +104,7 @@ module _
 
     pub loudly :
         q .calls ≡ true
-        → After (calledBy (lineControlled (s .controller) (queueOf (s .queued) ts' ss' fs') l) (q .queued)) ts' ss' fs' (s .reading) l
-        (afterOf (machineOf s ts ss fs) l)
-    unfolding afterOf
+        → After (calledBy (lineControlled (s .controller) (queueOf (s .queued) ts' ss' fs') l) (q .queued)) ts' ss' fs' (afterOf (machineOf s ts ss fs) l)
     loudly e =
         let k = told-calls true e in
         let z = line-same (queueOf (s .queued) ts ss fs) l k in
@@ -78,32 +112,21 @@ module _
         let u : ss' ≡ ss = h .sizes ∙ z .sizes in
         let v : fs' ≡ fs = h .flags ∙ z .flags in
         let n : q .queued ≡ lineQueued (queueOf (s .queued) ts ss fs) l .queue .count = ap (λ (x : Quiet). x .queued) (h .quiet) in
-        record {
-          answer = rw (k, t, u, v, n);
-          times = rw k (h .times);
-          sizes = rw k (h .sizes);
-          flags = rw k (h .flags);
-        }
+        rw (after-is (machineOf s ts ss fs) l, k) (record { answer = rw (t, u, v, n); times = h .times; sizes = h .sizes; flags = h .flags })
 
     pub quietly :
-        q .calls ≡ false
+        q .calls ≡ false → s .reading ≡ readingOf (s .controller)
         → After
         (record {
           session = record { controller = s .controller; reading = s .reading; queued = q .queued };
           answer = record { refusal = q .refusal; reading = s .reading };
         })
-        ts' ss' fs' (s .reading) l (afterOf (machineOf s ts ss fs) l)
-    unfolding afterOf
-    quietly e =
+        ts' ss' fs' (afterOf (machineOf s ts ss fs) l)
+    quietly e y =
         let k = told-calls false e in
         let n : q .queued ≡ lineQueued (queueOf (s .queued) ts ss fs) l .queue .count = ap (λ (x : Quiet). x .queued) (h .quiet) in
         let r : q .refusal ≡ lineQueued (queueOf (s .queued) ts ss fs) l .refusal = ap (λ (x : Quiet). x .refusal) (h .quiet) in
-        record {
-          answer = rw (k, n, r);
-          times = rw k (h .times);
-          sizes = rw k (h .sizes);
-          flags = rw k (h .flags);
-        }
+        rw (after-is (machineOf s ts ss fs) l, k) (record { answer = rw (n, r, y); times = h .times; sizes = h .sizes; flags = h .flags })
 
 -- the same of a call
 module _
@@ -115,7 +138,7 @@ module _
     Leaves c r f =
         After
         (record { session = record { controller = c; reading = r; queued = q .queued }; answer = record { refusal = f; reading = r } })
-        ts' ss' fs' (s .reading) (Taken call) (afterOf (machineOf s ts ss fs) (Taken call))
+        ts' ss' fs' (afterOf (machineOf s ts ss fs) (Taken call))
 
     module _ (c : LossController) (r : Reading) (f : ℕ) where
       pub call-loudly :
@@ -124,9 +147,9 @@ module _
       unfolding calls lineQueued lineControlled
       call-loudly e a x y z w = rw (y, z, w, x) (loudly s ts ss fs (Taken call) q ts' ss' fs' h e)
 
-      pub call-quietly : q .calls ≡ false → c ≡ s .controller → r ≡ s .reading → f ≡ q .refusal → Leaves c r f
+      pub call-quietly : q .calls ≡ false → s .reading ≡ readingOf (s .controller) → c ≡ s .controller → r ≡ s .reading → f ≡ q .refusal → Leaves c r f
       unfolding calls lineQueued
-      call-quietly e x y z = rw (x, y, z) (quietly s ts ss fs (Taken call) q ts' ss' fs' h e)
+      call-quietly e g x y z = rw (x, y, z) (quietly s ts ss fs (Taken call) q ts' ss' fs' h e g)
 
 -- readings that are told to be the same
 pub same-is : (a b : Reading) → sameReading a b ≡ true → a ≡ b

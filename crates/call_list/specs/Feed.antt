@@ -9,10 +9,9 @@ use Rattle.loss_controller.specs.Controller.{initial}
 use Rattle.call_line.specs.Column.{total}
 use Rattle.call_line.specs.Line.{lineOf, widths}
 use Rattle.call_line.specs.declared.Line.{Line}
-use Rattle.call_list.specs.declared.Reading.{Reading}
 use Rattle.call_list.specs.declared.State.{State}
 use Rattle.call_list.specs.declared.Fed.{Fed}
-use Rattle.call_list.specs.Answer.{Machine, machineOf, afterOf, readAfter, readingOf, rowOf}
+use Rattle.call_list.specs.Answer.{Machine, answerWidths, queueOf, afterOf, readingOf, rowOf}
 
 -- a line in shape is as wide as its columns
 abbrev pub width : ℕ
@@ -22,21 +21,18 @@ width = total widths
 abbrev pub kept : ℕ
 kept = width + 1
 
--- the bytes of an answer
+-- the bytes of an answer: its columns, and the newline
 abbrev pub rowWidth : ℕ
-rowWidth = 47
+rowWidth = total answerWidths + 1
 
 abbrev pub blank : List ℕ
 blank = replicate kept 0
 
--- ---- byte by byte, as the contracts of `feed` and `finish` say it; what the whole input gives is `answers` of specs/Whole
-
--- a run: the line so far, what is between two lines, the controller's reading, and all that was written
+-- a run: the line so far, what is between two lines, and all that was written
 pub record Run : Type 0 where
   pub line : List ℕ
   pub len : ℕ
   pub machine : Machine
-  pub reading : Reading
   pub out : List ℕ
 
 -- a byte of a line; one that finds no room is not kept
@@ -48,14 +44,13 @@ pushedLen len = cond (ltb len kept) (len + 1) len
 
 abbrev pub pushed : Run → ℕ → Run
 pushed r b =
-    record { line = pushedLine (r .line) (r .len) b; len = pushedLen (r .len); machine = r .machine; reading = r .reading; out = r .out }
+    record { line = pushedLine (r .line) (r .len) b; len = pushedLen (r .len); machine = r .machine; out = r .out }
 
 -- the line so far is l, and has ended
 abbrev pub told : Run → Line → Run
 told r l =
     let a = afterOf (r .machine) l in
-    let reading = readAfter (r .reading) l (a .machine .controller) in
-    record { line = blank; len = 0; machine = a .machine; reading = reading; out = r .out ++ rowOf (a .refusal) reading }
+    record { line = blank; len = 0; machine = a .machine; out = r .out ++ rowOf (a .refusal) (readingOf (a .machine .controller)) }
 
 abbrev pub ended : Run → Run
 ended r = told r (lineOf (take (r .len) (r .line)))
@@ -75,20 +70,21 @@ finished r = cond (eqb (r .len) 0) r (ended r)
 
 abbrev pub startOf : State → List ℕ → List ℕ → List ℕ → Run
 startOf p times sizes flags =
-    record { line = p .line; len = p .len; machine = machineOf (p .session) times sizes flags; reading = p .session .reading; out = [] }
+    record {
+      line = p .line;
+      len = p .len;
+      machine = record { controller = p .controller; queue = queueOf (p .queued) times sizes flags };
+      out = [];
+    }
 
 -- `start`
 abbrev pub fresh : State
-fresh = record { line = blank; len = 0; session = record { controller = initial; reading = readingOf initial; queued = 0 } }
+fresh = record { line = blank; len = 0; controller = initial; queued = 0 }
 
 -- what a function leaves that takes it to the run r
 pub record FedBy (f : Fed) (ts ss fs o : List ℕ) (r : Run) (o₀ : List ℕ) : Type 0 where
   pub state : f .state ≡
-      record {
-        line = r .line;
-        len = r .len;
-        session = record { controller = r .machine .controller; reading = r .reading; queued = r .machine .queue .count };
-      }
+      record { line = r .line; len = r .len; controller = r .machine .controller; queued = r .machine .queue .count }
   pub written : f .written ≡ length (r .out)
   pub times : ts ≡ r .machine .queue .times
   pub sizes : ss ≡ r .machine .queue .sizes

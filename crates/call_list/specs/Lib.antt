@@ -1,4 +1,5 @@
 pub mod Answer
+pub mod Split
 pub mod Feed
 pub mod Pieces
 pub mod Whole

@@ -11,7 +11,8 @@ use Rattle.call_list.specs.declared.Session.{Session}
 use Rattle.call_list.specs.declared.LineAnswer.{LineAnswer}
 use Rattle.call_list.specs.declared.Quiet.{Quiet}
 use Rattle.call_list.specs.declared.Next.{Next}
-use Rattle.call_list.specs.Answer.{Queued, places, machineOf, readingOf}
+use Rattle.call_list.specs.Answer.{places, machineOf, readingOf}
+use Rattle.call_list.specs.Split.{Queued}
 use Rattle.call_list.specs.Feed.{Run, width, kept, rowWidth, pushedLine, pushedLen, runs}
 
 -- what a line leaves without the controller
@@ -56,7 +57,7 @@ sameReading a b =
 -- ---- a chunk that is partly answered
 
 abbrev pub here : List ℕ → ℕ → Session → List ℕ → List ℕ → List ℕ → List ℕ → Run
-here line len s ts ss fs out = record { line = line; len = len; machine = machineOf s ts ss fs; reading = s .reading; out = out }
+here line len s ts ss fs out = record { line = line; len = len; machine = machineOf s ts ss fs; out = out }
 
 -- its first i bytes are, by w bytes of the output, which was out₀; the others lead to the run `end`
 pub record At (chunk out₀ : List ℕ) (end : Run) (ts ss fs out line : List ℕ) (len : ℕ) (s : Session) (w i : ℕ) : Type 0 where
@@ -66,6 +67,7 @@ pub record At (chunk out₀ : List ℕ) (end : Run) (ts ss fs out line : List �
   pub out-kept : length out ≡ length out₀
   pub room : w ≤ rowWidth * i
   pub rest : drop w out ≡ drop w out₀
+  pub reading : s .reading ≡ readingOf (s .controller)
   pub same : end ≡ runs (here line len s ts ss fs (take w out)) (drop i chunk)
 
 -- s with the bytes p from index `from` on

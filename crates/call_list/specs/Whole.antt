@@ -55,17 +55,18 @@ answers input = joined (answersTo freshMachine (linesOf input))
 
 -- ---- the program: chunks fed one after another, and a finish
 
--- from the state p and the queue's columns, fed the chunks by calls of `feed` and `finish` that are taken, whatever their buffers hold, the
--- program writes w
-pub data Writes : State → List ℕ → List ℕ → List ℕ → List (List ℕ) → List ℕ → Type 0 where
-  last :
-      {p : State} {ts ss fs : List ℕ} (f : Fed) (ts' ss' fs' out out₀ : List ℕ) → Finishes f ts' ss' fs' out p ts ss fs out₀ → f .taken ≡ true
-      → Writes p ts ss fs [] (take (f .written) out)
-  more :
-      {p : State} {ts ss fs w : List ℕ} {cs : List (List ℕ)} (f : Fed) (ts' ss' fs' c out out₀ : List ℕ)
-      → Feeds f ts' ss' fs' out p ts ss fs c out₀ → f .taken ≡ true → Writes (f .state) ts' ss' fs' cs w
-      → Writes p ts ss fs (c ∷ cs) (take (f .written) out ++ w)
+-- from its start, fed the chunks by calls of `feed` that are taken, whatever their buffers hold, the program has written w; it is in the state p, with
+-- these columns of the queue
+pub data Reached : List (List ℕ) → List ℕ → State → List ℕ → List ℕ → List ℕ → Type 0 where
+  started : Reached [] [] fresh none none none
+  fed :
+      {chunks : List (List ℕ)} {w : List ℕ} {p : State} {ts ss fs : List ℕ} (f : Fed) (ts' ss' fs' c out out₀ : List ℕ)
+      → Reached chunks w p ts ss fs → Feeds f ts' ss' fs' out p ts ss fs c out₀ → f .taken ≡ true
+      → Reached (chunks ++ (c ∷ [])) (w ++ take (f .written) out) (f .state) ts' ss' fs'
 
--- from its start
-abbrev pub Program : List (List ℕ) → List ℕ → Type 0
-Program chunks w = Writes fresh none none none chunks w
+-- and by a call of `finish` that is taken it has written all
+pub data Program : List (List ℕ) → List ℕ → Type 0 where
+  ended :
+      {chunks : List (List ℕ)} {w : List ℕ} {p : State} {ts ss fs : List ℕ} (f : Fed) (ts' ss' fs' out out₀ : List ℕ)
+      → Reached chunks w p ts ss fs → Finishes f ts' ss' fs' out p ts ss fs out₀ → f .taken ≡ true
+      → Program chunks (w ++ take (f .written) out)

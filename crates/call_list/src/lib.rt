@@ -9,6 +9,7 @@ ghost use Rattle.loss_controller.specs.Setters.{rateOf};
 ghost use Rattle.call_line.specs.Column.{column};
 ghost use Rattle.call_line.specs.Line.{lineOf};
 ghost use Rattle.call_list.specs.Answer as Answers;
+ghost use Rattle.call_list.specs.Split as Split;
 ghost use Rattle.call_list.specs.Feed as Feeding;
 ghost use Rattle.call_list.specs.Pieces as Pieces;
 use bandwidth::Bitrate;
@@ -26,39 +27,53 @@ pub const PLACES: usize = packets::MOST_PACKETS_IN_REPORT;
 // A line's bytes that are kept: one more than a line in shape has.
 pub const KEPT: usize = call_line::LINE_WIDTH + 1;
 
-// An answer's columns and its newline; and those after the refusal
-pub const ROW: usize = 47;
+// An answer's columns: refusal, state, published, rate and inherent loss
+const WIDTHS: [usize; 5] = [2, 2, 2, 20, 20];
 
-const TEXT: usize = ROW - 2;
+const REFUSAL_WIDTH: usize = WIDTHS[0];
+
+// Those after the refusal: where each ends, and the newline
+const STATE_END: usize = WIDTHS[1];
+
+const PUBLISHED_END: usize = STATE_END + WIDTHS[2];
+
+const RATE_END: usize = PUBLISHED_END + WIDTHS[3];
+
+const INHERENT_LOSS_END: usize = RATE_END + WIDTHS[4];
+
+const TEXT: usize = INHERENT_LOSS_END + 1;
+
+// The bytes of an answer
+pub const ROW: usize = REFUSAL_WIDTH + TEXT;
 
 // The number of the refusal where the queue is full
 const FULL: u8 = 12;
 
 // What an answer reads of the controller
-pub struct Reading {
-    pub state: u8,
-    pub published: u8,
-    pub rate: u64,
-    pub inherent_loss: u64,
+struct Reading {
+    state: u8,
+    published: u8,
+    rate: u64,
+    inherent_loss: u64,
 }
 
-// The program between two lines, but for the queue's columns. The reading is the controller's, kept
-// so that a line that leaves the controller alone does not touch it: it is large.
-pub struct Session {
-    pub controller: LossController,
-    pub reading: Reading,
-    pub queued: usize,
+// What is between two lines of a chunk, but for the queue's columns. The reading is the
+// controller's, kept so that a line that leaves the controller alone does not touch it: it is large.
+struct Session {
+    controller: LossController,
+    reading: Reading,
+    queued: usize,
 }
 
 // The five numbers of an answer
-pub struct Answer {
-    pub refusal: u8,
-    pub reading: Reading,
+struct Answer {
+    refusal: u8,
+    reading: Reading,
 }
 
-pub struct LineAnswer {
-    pub session: Session,
-    pub answer: Answer,
+struct LineAnswer {
+    session: Session,
+    answer: Answer,
 }
 
 // ---- the reading
@@ -112,8 +127,8 @@ fn quiet_line(
     line: Line,
 ) -> Quiet
     ensures { λ r.
-        ⌜ Pieces.QuietBy r (now (times .exit)) (now (sizes .exit)) (now (flags .exit)) (Answers.calls line)
-        (Answers.lineQueued (Answers.queueOf queued (now (times .entry)) (now (sizes .entry)) (now (flags .entry))) line) ⌝ }
+        ⌜ Pieces.QuietBy r (now (times .exit)) (now (sizes .exit)) (now (flags .exit)) (Split.calls line)
+        (Split.lineQueued (Answers.queueOf queued (now (times .entry)) (now (sizes .entry)) (now (flags .entry))) line) ⌝ }
 {
     match line {
         Line::Taken(call) => quiet_call(queued, times, sizes, flags, call),
@@ -130,8 +145,8 @@ fn quiet_call(
     call: Call,
 ) -> Quiet
     ensures { λ r.
-        ⌜ Pieces.QuietBy r (now (times .exit)) (now (sizes .exit)) (now (flags .exit)) (Answers.callCalls call)
-        (Answers.callQueued (Answers.queueOf queued (now (times .entry)) (now (sizes .entry)) (now (flags .entry))) call) ⌝ }
+        ⌜ Pieces.QuietBy r (now (times .exit)) (now (sizes .exit)) (now (flags .exit)) (Split.callCalls call)
+        (Split.callQueued (Answers.queueOf queued (now (times .entry)) (now (sizes .entry)) (now (flags .entry))) call) ⌝ }
 {
     match call {
         Call::Packet { time, lost, size } => {
@@ -179,7 +194,7 @@ fn queue_packet(
 ) -> Quiet
     ensures { λ r.
         ⌜ Pieces.QuietBy r (now (times .exit)) (now (sizes .exit)) (now (flags .exit)) false
-        (Answers.packetQueued (Answers.queueOf queued (now (times .entry)) (now (sizes .entry)) (now (flags .entry))) time lost size) ⌝ }
+        (Split.packetQueued (Answers.queueOf queued (now (times .entry)) (now (sizes .entry)) (now (flags .entry))) time lost size) ⌝ }
 {
     if queued >= PLACES {
         return left(FULL, queued);
@@ -240,7 +255,7 @@ fn control_call(
     flags: &[u8; PLACES],
     call: Call,
 ) -> ControllerAnswer
-    ensures { λ r. ⌜ r ≡ Answers.callControlled controller (Answers.queueOf queued (now (times .entry)) (now (sizes .entry)) (now (flags .entry))) call ⌝ }
+    ensures { λ r. ⌜ r ≡ Split.callControlled controller (Answers.queueOf queued (now (times .entry)) (now (sizes .entry)) (now (flags .entry))) call ⌝ }
 {
     match call {
         Call::Estimate(bits) => controller.set_bandwidth_estimate(rate(bits)),
@@ -270,7 +285,7 @@ fn control(
     flags: &[u8; PLACES],
     line: Line,
 ) -> ControllerAnswer
-    ensures { λ r. ⌜ r ≡ Answers.lineControlled controller (Answers.queueOf queued (now (times .entry)) (now (sizes .entry)) (now (flags .entry))) line ⌝ }
+    ensures { λ r. ⌜ r ≡ Split.lineControlled controller (Answers.queueOf queued (now (times .entry)) (now (sizes .entry)) (now (flags .entry))) line ⌝ }
 {
     match line {
         Line::Taken(call) => control_call(controller, queued, times, sizes, flags, call),
@@ -289,7 +304,7 @@ fn called(
     line: Line,
 ) -> LineAnswer
     ensures { λ r.
-        ⌜ r ≡ Pieces.calledBy (Answers.lineControlled (session .controller)
+        ⌜ r ≡ Pieces.calledBy (Split.lineControlled (session .controller)
         (Answers.queueOf (session .queued) (now (times .entry)) (now (sizes .entry)) (now (flags .entry))) line) left ⌝ }
 {
     let before = session.controller;
@@ -319,8 +334,9 @@ fn turn(
     flags: &mut [u8; PLACES],
     line: Line,
 ) -> LineAnswer
+    requires { ⌜ session .reading ≡ Answers.readingOf (session .controller) ⌝ }
     ensures { λ r.
-        ⌜ Answers.After r (now (times .exit)) (now (sizes .exit)) (now (flags .exit)) (session .reading) line
+        ⌜ Answers.After r (now (times .exit)) (now (sizes .exit)) (now (flags .exit))
         (Answers.afterOf (Answers.machineOf session (now (times .entry)) (now (sizes .entry)) (now (flags .entry))) line) ⌝ }
 {
     let queued = session.queued;
@@ -345,15 +361,16 @@ fn turn(
 }
 
 // The answer to a line, which comes without its newline, and what it leaves.
-pub fn answer_line(
+fn answer_line(
     session: Session,
     times: &mut [u64; PLACES],
     sizes: &mut [PacketSize; PLACES],
     flags: &mut [u8; PLACES],
     line: &[u8],
 ) -> LineAnswer
+    requires { ⌜ session .reading ≡ Answers.readingOf (session .controller) ⌝ }
     ensures { λ r.
-        ⌜ Answers.After r (now (times .exit)) (now (sizes .exit)) (now (flags .exit)) (session .reading) (lineOf (now (line .entry)))
+        ⌜ Answers.After r (now (times .exit)) (now (sizes .exit)) (now (flags .exit))
         (Answers.afterOf (Answers.machineOf session (now (times .entry)) (now (sizes .entry)) (now (flags .entry))) (lineOf (now (line .entry)))) ⌝ }
 {
     let said = call_line::read_line(line);
@@ -375,10 +392,20 @@ fn text(reading: Reading) -> [u8; TEXT]
     ensures { λ r. ⌜ r ≡ Answers.textOf reading ⌝ }
 {
     let mut text = [b'\n'; TEXT];
-    put_column(&mut text, 0, 2, reading.state as u64);
-    put_column(&mut text, 2, 4, reading.published as u64);
-    put_column(&mut text, 4, 24, reading.rate);
-    put_column(&mut text, 24, 44, reading.inherent_loss);
+    put_column(&mut text, 0, STATE_END, reading.state as u64);
+    put_column(
+        &mut text,
+        STATE_END,
+        PUBLISHED_END,
+        reading.published as u64,
+    );
+    put_column(&mut text, PUBLISHED_END, RATE_END, reading.rate);
+    put_column(
+        &mut text,
+        RATE_END,
+        INHERENT_LOSS_END,
+        reading.inherent_loss,
+    );
     text
 }
 
@@ -387,10 +414,10 @@ fn put_row(refusal: u8, text: &[u8], out: &mut [u8], w: usize)
     requires { ⌜ (length (now text) ≡ 45) × (w + Feeding.rowWidth ≤ length (now out)) ⌝ }
     ensures { λ _. ⌜ now (out .exit) ≡ Pieces.laid w (column 2 refusal ++ now (text .entry)) (now (out .entry)) ⌝ }
 {
-    put_column(out, w, w + 2, refusal as u64);
+    put_column(out, w, w + REFUSAL_WIDTH, refusal as u64);
     let mut k = 0;
     while k < TEXT {
-        out[w + 2 + k] = text[k];
+        out[w + REFUSAL_WIDTH + k] = text[k];
         k += 1;
     }
 }
@@ -484,7 +511,8 @@ fn whole_lines(
     out: &mut [u8],
     written: usize,
 ) -> Progress
-    requires { ⌜ (from ≤ length (now chunk)) × (written ≤ Feeding.rowWidth * from) × (Feeding.rowWidth * length (now chunk) ≤ length (now out)) ⌝ }
+    requires { ⌜ (from ≤ length (now chunk)) × (written ≤ Feeding.rowWidth * from) × (Feeding.rowWidth * length (now chunk) ≤ length (now out))
+        × (session .reading ≡ Answers.readingOf (session .controller)) ⌝ }
     ensures { λ r. ⌜ (from ≤ r .read) × (written ≤ r .written)
         × Pieces.At (now (chunk .entry)) (now (out .entry))
         (Feeding.runs
@@ -534,11 +562,12 @@ fn whole_lines(
 // ---- chunks
 
 // What is kept from chunk to chunk: the line so far, of which no more is looked at than `KEPT`
-// bytes, and the session.
+// bytes, the controller, and how many packets are queued.
 pub struct State {
     pub line: [u8; KEPT],
     pub len: usize,
-    pub session: Session,
+    pub controller: LossController,
+    pub queued: usize,
 }
 
 pub struct Fed {
@@ -551,16 +580,21 @@ pub struct Fed {
 pub fn start() -> State
     ensures { λ r. ⌜ r ≡ Feeding.fresh ⌝ }
 {
-    let controller = LossController::new();
-    let reading = read(controller);
     State {
         line: [0u8; KEPT],
         len: 0,
-        session: Session {
-            controller,
-            reading,
-            queued: 0,
-        },
+        controller: LossController::new(),
+        queued: 0,
+    }
+}
+
+fn session_of(controller: LossController, queued: usize) -> Session
+    ensures { λ r. ⌜ r ≡ record { controller = controller; reading = Answers.readingOf controller; queued = queued } ⌝ }
+{
+    Session {
+        controller,
+        reading: read(controller),
+        queued,
     }
 }
 
@@ -589,7 +623,8 @@ fn feed_all(
 {
     let mut line = state.line;
     let mut len = state.len;
-    let mut session = state.session;
+    let controller = state.controller;
+    let mut session = session_of(controller, state.queued);
     let mut w = 0;
     let mut i = 0;
     while i < chunk.len() {
@@ -612,9 +647,15 @@ fn feed_all(
             w = progress.written;
         }
     }
+    let controller = session.controller;
     Fed {
         taken: true,
-        state: State { line, len, session },
+        state: State {
+            line,
+            len,
+            controller,
+            queued: session.queued,
+        },
         written: w,
     }
 }
@@ -671,19 +712,22 @@ pub fn finish(
             written: 0,
         };
     }
-    let session = state.session;
+    let controller = state.controller;
+    let session = session_of(controller, state.queued);
     let done = answer_line(session, times, sizes, flags, &line[..len]);
     let answer = done.answer;
     let reading = answer.reading;
     let row = text(reading);
     put_row(answer.refusal, &row, out, 0);
     let next = done.session;
+    let controller = next.controller;
     Fed {
         taken: true,
         state: State {
             line: [0u8; KEPT],
             len: 0,
-            session: next,
+            controller,
+            queued: next.queued,
         },
         written: ROW,
     }

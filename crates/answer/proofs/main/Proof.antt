@@ -9,22 +9,25 @@ use Rattle.answer.proofs.main.Statement.{statement}
 use Rattle.answer.proofs.main.Tie as tie
 
 -- over lists of any length: the two buffers themselves are too long to compute with
-room : (a b : List ℕ) → length a ≡ 65536 → length b ≡ 3080192 → (length a ≤ length b / rowWidth) × (rowWidth ≤ length b)
+room : (a b : List ℕ) → length a ≡ 16384 → length b ≡ 770048 → (length a ≤ length b / rowWidth) × (rowWidth ≤ length b)
 room a b e f = (omega arith, omega arith)
 
 slice-aggregate-answer-all : tie.Need-slice-aggregate-answer-all
-slice-aggregate-answer-all c = sym (length-replicate {0} {A = ℕ} 65536 0)
+slice-aggregate-answer-all c = sym (length-replicate {0} {A = ℕ} 16384 0)
 
 slice-aggregate-answer-all-2 : tie.Need-slice-aggregate-answer-all-2
-slice-aggregate-answer-all-2 c = sym (length-replicate {0} {A = ℕ} 3080192 0)
+slice-aggregate-answer-all-2 c = sym (length-replicate {0} {A = ℕ} 770048 0)
 
 answer-all-requires : tie.Need-answer-all-requires
 answer-all-requires c κs =
-    let r = room (replicate 65536 0) (replicate 3080192 0) (length-replicate {0} {A = ℕ} 65536 0) (length-replicate {0} {A = ℕ} 3080192 0) in
+    let r = room (replicate 16384 0) (replicate 770048 0) (length-replicate {0} {A = ℕ} 16384 0) (length-replicate {0} {A = ℕ} 770048 0) in
     (refl, refl, refl, r .0, r .1)
+
+complain-requires : tie.Need-complain-requires
+complain-requires c κs = tt
 
 returns : tie.Need-returns
 returns c = tt
 
 pub main-spec : {M : Type 1} → statement M
-main-spec = tie.close (tie.spec slice-aggregate-answer-all slice-aggregate-answer-all-2 answer-all-requires returns)
+main-spec = tie.close (tie.spec slice-aggregate-answer-all slice-aggregate-answer-all-2 answer-all-requires complain-requires returns)

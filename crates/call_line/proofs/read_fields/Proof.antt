@@ -1,30 +1,26 @@
--- `read_fields` meets its contract: in a column, the number so far, and the digits ahead, are all. Assumes nothing.
-use Prim.Native.Nat.{ℕ, _+_, _-_, _*_, _^_, _≤_, _<_}
+-- `read_fields` meets its contract: the columns so far are read, and the first wrong one ends the reading. Assumes nothing.
+use Prim.Native.Nat.{ℕ, _+_, _-_, _≤_, _<_}
 use mathlib.Core.Path.{_≡_, refl, sym, ap, _∙_}
-use mathlib.Core.Bool.{true, false}
+use mathlib.Core.Bool.{false}
 use mathlib.Core.List.{List}
 use mathlib.Core.Logic.{⊎-elim}
-use native.Mathlib.Nat.{sub-self}
 use native.Mathlib.Omega.{arith}
-use borrow.Author.Tests.{not-true, not-false}
+use borrow.Author.Tests.{not-true}
 use borrow.Author.Needs.{needs}
-use lib.ListN.{length, getD, drop, length-set}
+use lib.ListN.{length, getD, length-set}
 use Rattle.call_line.specs.declared.Number.the-variants.{Value, Wrong}
-use Rattle.call_line.specs.Column.{asciiZero, isDigit, more, columnOf, digitsOf, start, cut}
+use Rattle.call_line.specs.Column.{isDigit, columnOf, digitsOf, start, cut}
 use Rattle.call_line.specs.Line.{widths}
-use Rattle.call_line.proofs.Reading.{digit-bounds, digits-fit}
-use Rattle.call_line.proofs.Columns.{part, start-next, within, length-part, spaces-within, column-is, digit-more, no-digit-at, cut-part}
-use Rattle.call_line.proofs.Columns.{other-width, wrong-column, right-columns, one-more}
+use Rattle.call_line.proofs.Columns.{part, start-next, within, spaces-within, column-is, no-digit-at, cut-part, other-width, wrong-column}
+use Rattle.call_line.proofs.Columns.{right-columns, one-more}
 use Rattle.call_line.proofs.read_fields.Statement.{statement}
 use Rattle.call_line.proofs.read_fields.Tie as tie
 
 abbrev Inv-loop : tie.InvT-loop
-Inv-loop line values from k to first tens₀ i₀ tens i =
-    (first ≤ i) × (i - first ≤ to - first - 1) × (tens < 10 ^ (i - first))
-    × (more 0 (part first to line) ≡ more tens (drop (i - first) (part first to line)))
+Inv-loop line values from k to first i₀ i = (first ≤ i) × (i ≤ to)
 
 abbrev μ-loop : tie.MeasureT-loop
-μ-loop line values from k to first tens₀ i₀ tens i = to - i
+μ-loop line values from k to first i₀ i = to - i
 
 abbrev Inv-columns : tie.InvT-columns
 Inv-columns line values₀ from₀ k₀ values from k =
@@ -80,23 +76,6 @@ Turn = tie.Else2 Inv-loop μ-loop Inv-columns μ-columns
 abbrev head : Turn → tie.At-loop Inv-loop μ-loop Inv-columns μ-columns
 head c = c .before .before .before .before
 
-abbrev byte : Turn → ℕ
-byte c = getD (S (head c .before)) (head c .loop .i) 0
-
--- its byte is a digit, with which the number fits
-digit : (c : Turn) → isDigit (byte c) ≡ true
-digit c = sym (c .before .is-digit .ensures) ∙ not-false _ (c .if2 .left)
-
-abbrev next : Turn → ℕ
-next c = head c .loop .tens * 10 + (byte c - asciiZero)
-
-fits : (c : Turn) → (next c < 10 ^ (head c .loop .i + 1 - first (head c .before))) × (next c < 2 ^ 64)
-fits c =
-    let l = head c in
-    digits-fit (first (l .before)) (l .loop .i) (l .loop .tens) (byte c) (l .loop .inv .0)
-    (omega (arith, within (k (l .before)) (l .before .before .before .columns-test .taken)))
-    (l .loop .inv .2) (digit c)
-
 returns : tie.Need-returns Inv-loop μ-loop Inv-columns μ-columns
 returns c = sym (other-width _ (c .if1 .taken))
 
@@ -129,28 +108,13 @@ add-first : tie.Need-add-first Inv-loop μ-loop Inv-columns μ-columns
 add-first c = omega (arith, ends (c .before .before), spaces c)
 
 loop-holds : tie.Need-loop-holds Inv-loop μ-loop Inv-columns μ-columns
-loop-holds c = (omega arith, omega arith, rw sub-self (omega arith), rw sub-self)
+loop-holds c = (omega arith, spaces c)
 
-add-loop : tie.Need-add-loop Inv-loop μ-loop Inv-columns μ-columns
-add-loop c = omega (arith, spaces (c .before), ends (c .before .before .before))
-
-shared-slice-read-byte : tie.Need-shared-slice-read-byte Inv-loop μ-loop Inv-columns μ-columns
-shared-slice-read-byte c = omega (arith, ends (c .before .before .before .before .before))
+shared-slice-read-is-digit : tie.Need-shared-slice-read-is-digit Inv-loop μ-loop Inv-columns μ-columns
+shared-slice-read-is-digit c = omega (arith, ends (c .before .before .before .before .before))
 
 is-digit-requires : tie.Need-is-digit-requires Inv-loop μ-loop Inv-columns μ-columns
 is-digit-requires c κs = search needs
-
-mul-tens : tie.Need-mul-tens Inv-loop μ-loop Inv-columns μ-columns
-mul-tens c = omega (arith, fits c)
-
-sub-tens : tie.Need-sub-tens Inv-loop μ-loop Inv-columns μ-columns
-sub-tens c = omega (arith, digit-bounds _ (digit c))
-
-cast-tens : tie.Need-cast-tens Inv-loop μ-loop Inv-columns μ-columns
-cast-tens c = omega (arith, fits c)
-
-add-tens : tie.Need-add-tens Inv-loop μ-loop Inv-columns μ-columns
-add-tens c = omega (arith, fits c)
 
 add-i : tie.Need-add-i Inv-loop μ-loop Inv-columns μ-columns
 add-i c = omega (arith, ends (head c .before .before .before))
@@ -159,15 +123,7 @@ loop-less : tie.Need-loop-less Inv-loop μ-loop Inv-columns μ-columns
 loop-less c = search needs
 
 loop-again : tie.Need-loop-again Inv-loop μ-loop Inv-columns μ-columns
-loop-again c =
-    let l = head c in (
-      omega arith,
-      omega arith,
-      fits c .0,
-      l .loop .inv .3
-          ∙ digit-more (S (l .before)) (first (l .before)) (to (l .before)) (ends (l .before .before .before)) (l .loop .i) (l .loop .tens)
-          (l .loop .inv .0) (omega arith) (digit c) (fits c .1),
-    )
+loop-again c = (omega arith, omega arith)
 
 sub-read-number : tie.Need-sub-read-number Inv-loop μ-loop Inv-columns μ-columns
 sub-read-number c = spaces (c .before .before)
@@ -179,11 +135,7 @@ part-read-number-end : tie.Need-part-read-number-end Inv-loop μ-loop Inv-column
 part-read-number-end c = ends (c .before .before .before .before)
 
 read-number-requires : tie.Need-read-number-requires Inv-loop μ-loop Inv-columns μ-columns
-read-number-requires c κs =
-    let l = c .before .before in
-    let e = length-part (S (l .before)) (first (l .before)) (to (l .before)) (ends (l .before .before .before)) in
-    let n : to (l .before) - first (l .before) - 1 ≡ l .loop .i - first (l .before) = omega arith in
-    rw (e, n) (l .loop .inv .3)
+read-number-requires c κs = search needs
 
 enum-known-value : tie.Need-enum-known-value Inv-loop μ-loop Inv-columns μ-columns
 enum-known-value c = search needs
@@ -265,13 +217,8 @@ read-fields-spec =
     leading-spaces-requires
     add-first
     loop-holds
-    add-loop
-    shared-slice-read-byte
+    shared-slice-read-is-digit
     is-digit-requires
-    mul-tens
-    sub-tens
-    cast-tens
-    add-tens
     add-i
     loop-less
     loop-again

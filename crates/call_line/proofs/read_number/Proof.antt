@@ -1,5 +1,5 @@
--- `read_number` meets its contract: `tens`, and the last digit, are all. Assumes nothing.
-use Prim.Native.Nat.{ℕ, _+_, _-_, _≤_}
+-- `read_number` meets its contract: the number so far, and the digits ahead, are all. Assumes nothing.
+use Prim.Native.Nat.{ℕ, _+_, _-_, _*_, _^_, _≤_, _<_}
 use mathlib.Core.Path.{_≡_, sym, _∙_}
 use mathlib.Core.Bool.{true}
 use mathlib.Core.List.{List}
@@ -8,103 +8,133 @@ use native.Mathlib.Omega.{arith}
 use borrow.Author.Needs.{needs}
 use borrow.Author.Tests.{not-true, not-false}
 use lib.ListN.{length, getD, drop}
+use Rattle.call_line.specs.declared.Number.the-variants.{Wrong}
 use Rattle.call_line.specs.Column.{asciiZero, asciiNine, isDigit, more, digitsOf}
 use Rattle.call_line.proofs.Reading.{no-digits, leading-zero, one-digit, no-leading-zero, digit-bounds, more-end, more-over, more-on, no-digit}
 use Rattle.call_line.proofs.read_number.Statement.{statement}
 use Rattle.call_line.proofs.read_number.Tie as tie
 
-abbrev S : tie.Joined3 → List ℕ
-S j = j .before .before .before .before .before .before .args .digits .now
+abbrev Inv-loop : tie.InvT-loop
+Inv-loop digits value₀ i₀ value i = (i ≤ length digits) × (digitsOf digits ≡ more value (drop i digits))
 
-abbrev tens : tie.Joined3 → ℕ
-tens j = j .before .before .before .before .before .before .args .tens
+abbrev μ-loop : tie.MeasureT-loop
+μ-loop digits value₀ i₀ value i = length digits - i
 
-abbrev last : tie.Joined3 → ℕ
-last j = length (S j) - 1
-
--- the last byte is a digit
-digit : (j : tie.Joined3) → isDigit (getD (S j) (last j) 0) ≡ true
-digit j = sym (j .before .before .is-digit .ensures) ∙ not-false _ (j .before .if2 .left)
-
-bounds :
-    (j : tie.Joined3) → (asciiZero ≤ getD (S j) (last j) 0) × (getD (S j) (last j) 0 ≤ asciiNine)
-bounds j = digit-bounds _ (digit j)
-
--- without a leading zero, the digits say what `tens` and the last do
-says : (j : tie.Joined3) → digitsOf (S j) ≡ more (tens j) (drop (last j) (S j))
-says j =
-    let n = j .before .before .before .before .if1 .left in
-    ⊎-elim (λ w. no-leading-zero (S j) n (w .2 .left)) (λ w. one-digit (S j) (omega (arith, n))) (j .if3 .came)
-    ∙ j .before .before .before .before .before .before .pre
-
-returns : tie.Need-returns
+returns : tie.Need-returns Inv-loop μ-loop
 returns c = sym (no-digits _ (c .if1 .taken))
 
-sub-last : tie.Need-sub-last
-sub-last c = search needs
+shared-slice-read-if3 : tie.Need-shared-slice-read-if3 Inv-loop μ-loop
+shared-slice-read-if3 c = search needs
 
-shared-slice-read-is-digit : tie.Need-shared-slice-read-is-digit
-shared-slice-read-is-digit c = search needs
+returns-2 : tie.Need-returns-2 Inv-loop μ-loop
+returns-2 c = sym (leading-zero _ (c .if3 .taken) (omega arith))
 
-is-digit-requires : tie.Need-is-digit-requires
+loop-holds : tie.Need-loop-holds Inv-loop μ-loop
+loop-holds c =
+    let s = c .before .before .before .args .digits .now in
+    let n = c .before .if1 .left in (
+      omega arith,
+      ⊎-elim (λ w. no-leading-zero s n (w .2 .left)) (λ w. one-digit s (omega (arith, n))) (c .if2 .came),
+    )
+
+shared-slice-read-byte : tie.Need-shared-slice-read-byte Inv-loop μ-loop
+shared-slice-read-byte c = search needs
+
+add-i : tie.Need-add-i Inv-loop μ-loop
+add-i c = search needs
+
+is-digit-requires : tie.Need-is-digit-requires Inv-loop μ-loop
 is-digit-requires c κs = search needs
 
-returns-2 : tie.Need-returns-2
-returns-2 c = sym (no-digit _ _ (omega arith) (sym (c .before .is-digit .ensures) ∙ not-true _ (c .if2 .taken)))
+-- ---- a turn
 
-shared-slice-read-if4 : tie.Need-shared-slice-read-if4
-shared-slice-read-if4 c = search needs
+abbrev Turn : Type 0
+Turn = tie.Else4 Inv-loop μ-loop
 
-returns-3 : tie.Need-returns-3
-returns-3 c = sym (leading-zero _ (c .if4 .taken) (omega arith))
+abbrev head : Turn → tie.At-loop Inv-loop μ-loop
+head c = c .before .before .before .before
 
-shared-slice-read-digit : tie.Need-shared-slice-read-digit
-shared-slice-read-digit c = search needs
+abbrev S : Turn → List ℕ
+S c = head c .before .before .before .before .args .digits .now
 
-sub-digit : tie.Need-sub-digit
-sub-digit c = omega (arith, bounds (c .before))
+digit : (c : Turn) → isDigit (getD (S c) (head c .loop .i) 0) ≡ true
+digit c = sym (c .before .is-digit .ensures) ∙ not-false _ (c .if4 .left)
 
-cast-digit : tie.Need-cast-digit
-cast-digit c = omega (arith, bounds (c .before))
+bounds : (c : Turn) → (asciiZero ≤ getD (S c) (head c .loop .i) 0) × (getD (S c) (head c .loop .i) 0 ≤ asciiNine)
+bounds c = digit-bounds _ (digit c)
 
-sub-if5 : tie.Need-sub-if5
-sub-if5 c = omega (arith, bounds (c .before))
+-- a number that does not fit is wrong
+over : (c : Turn) → 2 ^ 64 ≤ head c .loop .value * 10 + (getD (S c) (head c .loop .i) 0 - asciiZero) → digitsOf (S c) ≡ Wrong
+over c h = head c .loop .inv .1 ∙ more-over (S c) (head c .loop .i) (head c .loop .value) (c .before .before .before .loop-test .taken) (digit c) h
 
-returns-4 : tie.Need-returns-4
-returns-4 c =
-    let j = c .before .before in
-    sym (says j ∙ more-over (S j) (last j) (tens j) (omega arith) (digit j) (omega (arith, bounds j)))
+returns-3 : tie.Need-returns-3 Inv-loop μ-loop
+returns-3 c =
+    let l = c .before .before .before .before in
+    sym (no-digit _ (l .loop .i) (c .before .before .before .loop-test .taken) (sym (c .before .is-digit .ensures) ∙ not-true _ (c .if4 .taken)))
 
-mul-t15 : tie.Need-mul-t15
-mul-t15 c = search needs
+sub-digit : tie.Need-sub-digit Inv-loop μ-loop
+sub-digit c = omega (arith, bounds c)
 
-add-t16 : tie.Need-add-t16
-add-t16 c = omega (arith, bounds (c .before .before))
+cast-digit : tie.Need-cast-digit Inv-loop μ-loop
+cast-digit c = omega (arith, bounds c)
 
-returns-5 : tie.Need-returns-5
-returns-5 c =
-    let j = c .before .before in
-    sym
-    (says j
-    ∙ more-on (S j) (last j) (tens j) (omega arith) (digit j) (omega (arith, bounds j))
-    ∙ more-end (S j) (last j + 1) _ (omega arith))
+returns-4 : tie.Need-returns-4 Inv-loop μ-loop
+returns-4 c = sym (over (c .before) (omega (arith, c .if5 .taken)))
+
+mul-if6 : tie.Need-mul-if6 Inv-loop μ-loop
+mul-if6 c = omega (arith, c .if5 .left)
+
+sub-if6 : tie.Need-sub-if6 Inv-loop μ-loop
+sub-if6 c = omega (arith, c .if5 .left)
+
+returns-5 : tie.Need-returns-5 Inv-loop μ-loop
+returns-5 c = sym (over (c .before .before) (omega (arith, bounds (c .before .before), c .if6 .taken, c .before .if5 .left)))
+
+mul-value : tie.Need-mul-value Inv-loop μ-loop
+mul-value c = omega (arith, c .before .if5 .left)
+
+add-value : tie.Need-add-value Inv-loop μ-loop
+add-value c = omega (arith, bounds (c .before .before), c .if6 .left, c .before .if5 .left)
+
+loop-less : tie.Need-loop-less Inv-loop μ-loop
+loop-less c = search needs
+
+loop-again : tie.Need-loop-again Inv-loop μ-loop
+loop-again c =
+    let t = c .before .before in
+    let l = head t .loop in
+    let m = t .before .before .before .loop-test .taken in (
+      omega (arith, m),
+      l .inv .1 ∙ more-on (S t) (l .i) (l .value) m (digit t) (omega (arith, bounds t, c .if6 .left, c .before .if5 .left)),
+    )
+
+returns-6 : tie.Need-returns-6 Inv-loop μ-loop
+returns-6 c =
+    let l = c .before .loop in
+    sym (l .inv .1 ∙ more-end _ (l .i) (l .value) (c .loop-test .left))
 
 pub read-number-spec : {M : Type 1} → statement M
 read-number-spec =
     tie.close
     (tie.spec
+    Inv-loop
+    μ-loop
     returns
-    sub-last
-    shared-slice-read-is-digit
-    is-digit-requires
+    shared-slice-read-if3
     returns-2
-    shared-slice-read-if4
+    loop-holds
+    shared-slice-read-byte
+    add-i
+    is-digit-requires
     returns-3
-    shared-slice-read-digit
     sub-digit
     cast-digit
-    sub-if5
     returns-4
-    mul-t15
-    add-t16
-    returns-5)
+    mul-if6
+    sub-if6
+    returns-5
+    mul-value
+    add-value
+    loop-less
+    loop-again
+    returns-6)

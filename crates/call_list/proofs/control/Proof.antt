@@ -1,5 +1,5 @@
 use borrow.Author.Needs.{needs}
-use Rattle.call_list.specs.Answer.{lineControlled}
+use Rattle.call_list.specs.Split.{lineControlled}
 use Rattle.call_list.proofs.control.Statement.{statement}
 use Rattle.call_list.proofs.control.Tie as tie
 

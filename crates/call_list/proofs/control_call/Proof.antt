@@ -1,5 +1,5 @@
 use borrow.Author.Needs.{needs}
-use Rattle.call_list.specs.Answer.{callControlled}
+use Rattle.call_list.specs.Split.{callControlled}
 use Rattle.call_list.proofs.control_call.Statement.{statement}
 use Rattle.call_list.proofs.control_call.Tie as tie
 

@@ -1,21 +1,26 @@
 -- `feed_all` meets its contract: a turn answers the line that ends next, and the lines that stand whole after it. Assumes nothing.
-use Prim.Native.Nat.{_+_, _-_, _≤_, _<_}
-use mathlib.Core.Path.{refl, sym, ap, _∙_}
+use Prim.Native.Nat.{ℕ, _+_, _-_, _≤_, _<_}
+use mathlib.Core.Path.{_≡_, refl, sym, ap, _∙_}
+use mathlib.Core.List.{List}
 use native.Mathlib.Omega.{arith}
 use borrow.Author.Needs.{needs}
 use lib.ListN.{length}
 use lib.Seq.{length-take-le}
-use Rattle.call_list.specs.Feed.{rowWidth, blank, runs, startOf}
+use Rattle.call_list.specs.declared.Session.{Session}
+use Rattle.call_list.specs.declared.State.{State}
+use Rattle.call_list.specs.Feed.{Run, width, rowWidth, blank, runs, startOf}
 use Rattle.call_list.specs.Pieces.{At}
 use Rattle.call_list.proofs.Laying.{length-text}
 use Rattle.call_list.proofs.Feeding.{KeptLine, kept-line, row-fits, one-line, no-line, line-more, line-within, line-run, go-on, all-read}
 use Rattle.call_list.proofs.feed_all.Statement.{statement}
 use Rattle.call_list.proofs.feed_all.Tie as tie
 
+abbrev state : List ℕ → ℕ → Session → State
+state line len s = record { line = line; len = len; controller = s .controller; queued = s .queued }
+
 abbrev Inv-loop : tie.InvT-loop
 Inv-loop times₀ sizes₀ flags₀ chunk out₀ line₀ len₀ session₀ w₀ i₀ times sizes flags out line len session w i =
-    At chunk out₀ (runs (startOf (record { line = line₀; len = len₀; session = session₀ }) times₀ sizes₀ flags₀) chunk) times sizes flags out line
-    len session w i
+    At chunk out₀ (runs (startOf (state line₀ len₀ session₀) times₀ sizes₀ flags₀) chunk) times sizes flags out line len session w i
 
 abbrev μ-loop : tie.MeasureT-loop
 μ-loop times₀ sizes₀ flags₀ chunk out₀ line₀ len₀ session₀ w₀ i₀ times sizes flags out line len session w i =
@@ -24,23 +29,37 @@ abbrev μ-loop : tie.MeasureT-loop
 -- ---- the stages of a turn
 
 abbrev begin : tie.In-loop Inv-loop μ-loop → tie.Start Inv-loop μ-loop
-begin c = c .before .before .before .before .before .before
+begin c = c .before .before .before .before .before .before .before
 
 abbrev head : tie.After-line2 Inv-loop μ-loop → tie.In-loop Inv-loop μ-loop
 head c = c .before .before
 
+-- where the whole chunk leads
+abbrev target : tie.In-loop Inv-loop μ-loop → Run
+target h =
+    let a = begin h .args in
+    runs (startOf (state (a .state .line) (a .state .len) (h .before .before .session-of .result)) (a .times .now) (a .sizes .now) (a .flags .now))
+    (a .chunk .now)
+
 abbrev row-written : tie.After-put-row Inv-loop μ-loop → tie.Then1 Inv-loop μ-loop
 row-written c = c .before .before .before .before .before .before .before .before .before .before .before
 
+session-of-requires : tie.Need-session-of-requires Inv-loop μ-loop
+session-of-requires c κs = search needs
+
 loop-holds : tie.Need-loop-holds Inv-loop μ-loop
 loop-holds c =
+    let a = c .before .before .before .before .before in
+    let y = a .good in
+    let e : length (a .args .state .line) ≡ width + 1 = search needs in
     record {
       read = omega arith;
-      short = c .before .before .before .before .pre .0;
-      whole = search needs;
+      short = a .pre .0;
+      whole = e;
       out-kept = refl;
       room = omega arith;
       rest = refl;
+      reading = rw (c .session-of .ensures);
       same = refl;
     }
 
@@ -65,7 +84,7 @@ slice-aggregate-answer-line c =
     sym (length-take-le _ _ (omega (arith, k .short, k .whole)))
 
 answer-line-requires : tie.Need-answer-line-requires Inv-loop μ-loop
-answer-line-requires c κs = search needs
+answer-line-requires c κs = head (c .before .before .before .before .before) .before .loop .inv .reading
 
 text-requires : tie.Need-text-requires Inv-loop μ-loop
 text-requires c κs = search needs
@@ -94,7 +113,7 @@ turned :
     let h = head (t .before) in
     let a = begin h .args in
     let d = c .before .before .before .before .before .before .answer-line in
-    At (a .chunk .now) (a .out .now) (runs (startOf (a .state) (a .times .now) (a .sizes .now) (a .flags .now)) (a .chunk .now))
+    At (a .chunk .now) (a .out .now) (target h)
     (d .last .1 .0) (d .last .1 .1 .0) (d .last .1 .1 .1 .0) (c .put-row .last .1 .1 .0) blank 0 (d .result .session) (h .before .loop .w + rowWidth)
     (t .before .before .read-on .result .read))
 turned c =
@@ -121,7 +140,7 @@ add-whole-lines c =
 whole-lines-requires : tie.Need-whole-lines-requires Inv-loop μ-loop
 whole-lines-requires c κs =
     let p = c .before .before .before .before .before .before .before in
-    let t = turned p in (t .read, t .room, omega (arith, t .out-kept, begin (head (row-written p .before)) .pre .1))
+    let t = turned p in (t .read, t .room, omega (arith, t .out-kept, begin (head (row-written p .before)) .pre .1), t .reading)
 
 loop-less : tie.Need-loop-less Inv-loop μ-loop
 loop-less c =
@@ -139,7 +158,7 @@ none : (c : tie.Else1 Inv-loop μ-loop) → (let h = head (c .before) in
     let l = h .before .loop in
     let a = begin h .args in
     let n = c .before .before .read-on .result in
-    (l .i < n .read) × At (a .chunk .now) (a .out .now) (runs (startOf (a .state) (a .times .now) (a .sizes .now) (a .flags .now)) (a .chunk .now))
+    (l .i < n .read) × At (a .chunk .now) (a .out .now) (target h)
     (l .times) (l .sizes) (l .flags) (l .out) (n .line) (n .len) (l .session) (l .w) (n .read))
 none c =
     let h = head (c .before) in
@@ -156,8 +175,11 @@ same-length c = search needs
 
 returns : tie.Need-returns Inv-loop μ-loop
 returns c =
-    let l = c .before .loop in
-    (refl, all-read _ _ _ _ _ _ _ _ _ _ _ _ (l .inv) (c .loop-test .left) (c .before .before .before .before .before .before .pre .1))
+    let l = c .before .before .loop in (
+      refl,
+      rw (c .before .before .before .session-of .ensures) at
+          (all-read _ _ _ _ _ _ _ _ _ _ _ _ (l .inv) (c .before .loop-test .left) (c .before .before .before .before .before .before .before .before .pre .1)),
+    )
 
 pub feed-all-spec : {M : Type 1} → statement M
 feed-all-spec =
@@ -165,6 +187,7 @@ feed-all-spec =
     (tie.spec
     Inv-loop
     μ-loop
+    session-of-requires
     loop-holds
     read-on-requires
     array-share-prefix-line

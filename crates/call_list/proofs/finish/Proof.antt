@@ -1,5 +1,6 @@
 use borrow.Author.Needs.{needs}
 use Rattle.call_list.proofs.Feeding.{long-no, room-no, room-yes, not-finished, none-finished, line-finished}
+use Rattle.call_list.specs.declared.Session.{Session}
 use Rattle.call_list.specs.Answer.{rowOf}
 use Rattle.call_list.specs.Feed.{kept, rowWidth}
 use lib.Seq.{length-take-le}
@@ -38,22 +39,26 @@ returns-3 c =
     none-finished (a .state) (a .times .now) (a .sizes .now) (a .flags .now) (a .out .now)
     (room-yes (a .state .len) 1 (length (a .out .now)) (c .before .before .if1 .left) g) (c .if3 .taken)
 
+session-of-requires : tie.Need-session-of-requires
+session-of-requires c κs = search needs
+
 array-share-prefix-line : tie.Need-array-share-prefix-line
 array-share-prefix-line c =
-    let a = c .before .before .before .before .before .before .before .before .before in
-    let y = a .good in
-    let e : length (a .args .state .line) ≡ kept = search needs in
-    omega (arith, c .before .before .before .before .before .before .if1 .left)
-
-slice-aggregate-answer-line : tie.Need-slice-aggregate-answer-line
-slice-aggregate-answer-line c =
     let a = c .before .before .before .before .before .before .before .before .before .before in
     let y = a .good in
     let e : length (a .args .state .line) ≡ kept = search needs in
-    sym (length-take-le (a .args .state .len) (a .args .state .line) (omega (arith, c .before .before .before .before .before .before .before .if1 .left)))
+    omega (arith, c .before .before .before .before .before .before .before .if1 .left)
+
+slice-aggregate-answer-line : tie.Need-slice-aggregate-answer-line
+slice-aggregate-answer-line c =
+    let a = c .before .before .before .before .before .before .before .before .before .before .before in
+    let y = a .good in
+    let e : length (a .args .state .line) ≡ kept = search needs in
+    sym (length-take-le (a .args .state .len) (a .args .state .line)
+    (omega (arith, c .before .before .before .before .before .before .before .before .if1 .left)))
 
 answer-line-requires : tie.Need-answer-line-requires
-answer-line-requires c κs = search needs
+answer-line-requires c κs = rw (c .before .before .before .before .session-of .ensures)
 
 text-requires : tie.Need-text-requires
 text-requires c κs = search needs
@@ -70,13 +75,16 @@ same-length c = search needs
 returns-4 : tie.Need-returns-4
 unfolding rowOf
 returns-4 c =
-    let answered = c .before .before .before .before .before .before .before .before .before in
-    let tested = answered .before .before .before .before .before .before in
-    let a = tested .before .before .before .before .before .args in
-    let r : 1 ≤ length (a .out .now) / rowWidth = omega (arith, tested .before .if2 .left) in
-    line-finished (a .state) (a .times .now) (a .sizes .now) (a .flags .now) (a .out .now) (answered .answer-line .result) _ _ _ _
-    (room-yes (a .state .len) 1 (length (a .out .now)) (tested .before .before .if1 .left) r) (tested .if3 .left) (answered .answer-line .ensures)
-    (rw (← c .before .before .before .before .before .before .text .ensures) (c .before .before .before .put-row .ensures))
+    let d = c .before .before .before .before .before .before .before .before .before .before in
+    let i = d .before .before .before .before .before .before .before in
+    let a = i .before .before .before .before .before .args in
+    let s = d .before .before .before .before .before .session-of in
+    let r : 1 ≤ length (a .out .now) / rowWidth = omega (arith, i .before .if2 .left) in
+    line-finished (a .state) (a .times .now) (a .sizes .now) (a .flags .now) (a .out .now) (s .result) (d .answer-line .result) _ _ _ _
+    (room-yes (a .state .len) 1 (length (a .out .now)) (i .before .before .if1 .left) r) (i .if3 .left)
+    (ap (λ (x : Session). x .controller) (s .ensures)) (ap (λ (x : Session). x .queued) (s .ensures))
+    (d .answer-line .ensures)
+    (rw (← c .before .before .before .before .before .before .before .text .ensures) (c .before .before .before .before .put-row .ensures))
 
 pub finish-spec : {M : Type 1} → statement M
 finish-spec =
@@ -87,6 +95,7 @@ finish-spec =
     not-taken-requires-2
     returns-2
     returns-3
+    session-of-requires
     array-share-prefix-line
     slice-aggregate-answer-line
     answer-line-requires

@@ -1,5 +1,5 @@
 use borrow.Author.Needs.{needs}
-use Rattle.call_list.specs.Answer.{packetQueued}
+use Rattle.call_list.specs.Split.{packetQueued}
 use borrow.Author.Tests.{lt-ltb, le-ltb}
 use mathlib.Core.Path.{refl}
 use Rattle.call_list.proofs.queue_packet.Statement.{statement}

@@ -1,5 +1,5 @@
 use borrow.Author.Needs.{needs}
-use Rattle.call_list.specs.Answer.{callCalls, callQueued}
+use Rattle.call_list.specs.Split.{callCalls, callQueued}
 use mathlib.Core.Path.{refl}
 use Rattle.call_list.proofs.quiet_call.Statement.{statement}
 use Rattle.call_list.proofs.quiet_call.Tie as tie

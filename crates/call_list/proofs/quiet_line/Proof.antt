@@ -1,5 +1,5 @@
 use borrow.Author.Needs.{needs}
-use Rattle.call_list.specs.Answer.{calls, lineQueued}
+use Rattle.call_list.specs.Split.{calls, lineQueued}
 use mathlib.Core.Path.{refl}
 use Rattle.call_list.proofs.quiet_line.Statement.{statement}
 use Rattle.call_list.proofs.quiet_line.Tie as tie

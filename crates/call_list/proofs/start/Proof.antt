@@ -5,11 +5,8 @@ use Rattle.call_list.proofs.start.Tie as tie
 new-requires : tie.Need-new-requires
 new-requires c κs = search needs
 
-read-requires : tie.Need-read-requires
-read-requires c κs = search needs
-
 returns : tie.Need-returns
-returns c = rw (c .read .ensures, c .before .new .ensures)
+returns c = rw (c .new .ensures)
 
 pub start-spec : {M : Type 1} → statement M
-start-spec = tie.close (tie.spec new-requires read-requires returns)
+start-spec = tie.close (tie.spec new-requires returns)

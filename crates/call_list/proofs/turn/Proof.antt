@@ -17,9 +17,10 @@ returns c =
 
 returns-2 : tie.Need-returns-2
 returns-2 c =
-    let a = c .before .before .before .before .before .before .before .args in
+    let s = c .before .before .before .before .before .before .before in
+    let a = s .args in
     quietly (a .session) (a .times .now) (a .sizes .now) (a .flags .now) (a .line) _ _ _ _ (c .before .before .before .quiet-line .ensures)
-    (c .before .before .if1 .left)
+    (c .before .before .if1 .left) (s .pre)
 
 pub turn-spec : {M : Type 1} → statement M
 turn-spec = tie.close (tie.spec quiet-line-requires called-requires returns returns-2)

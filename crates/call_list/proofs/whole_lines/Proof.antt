@@ -9,6 +9,7 @@ use lib.ListN.{length, take, drop}
 use Rattle.call_line.specs.Line.{lineOf}
 use Rattle.call_line.specs.declared.Call.{Call}
 use Rattle.call_line.specs.declared.Line.the-variants.{Taken}
+use Rattle.call_list.specs.declared.Session.{Session}
 use Rattle.call_list.specs.Answer.{textOf}
 use Rattle.call_list.specs.Feed.{width, rowWidth, blank, runs}
 use Rattle.call_list.specs.Pieces.{here, At}
@@ -55,7 +56,7 @@ loop-holds c =
       omega arith,
       omega arith,
       c .text .ensures,
-      record { read = p .0; short = omega arith; whole = refl; out-kept = refl; room = p .1; rest = refl; same = refl },
+      record { read = p .0; short = omega arith; whole = refl; out-kept = refl; room = p .1; rest = refl; reading = p .3; same = refl },
     )
 
 may-stand-requires : tie.Need-may-stand-requires Inv-loop μ-loop
@@ -113,20 +114,26 @@ text-told j =
 text-long : (j : Turn) → length (j .if2 .row) ≡ 45
 text-long j = ap length (text-told j) ∙ length-text _
 
+-- the session at its start
+abbrev session : Turn → Session
+session j =
+    let l = head (stood j) .loop in
+    record { controller = l .controller; reading = l .reading; queued = l .queued }
+
 leaves :
     (j : Turn)
     → (let l = head (stood j) .loop in
     let k = j .before .quiet-call in
-    Leaves (record { controller = l .controller; reading = l .reading; queued = l .queued }) (l .times) (l .sizes) (l .flags)
+    Leaves (session j) (l .times) (l .sizes) (l .flags)
     (call j) (k .result) (k .last .1 .0) (k .last .1 .1 .0) (k .last .1 .1 .1 .0) (k .ensures)
     (j .if2 .controller) (j .if2 .reading) (j .if2 .refusal))
 leaves j =
     let h = j .before .quiet-call .ensures in
-    ⊎-elim (λ a. call-loudly _ _ _ _ (call j) _ _ _ _ h _ _ _ (a .0 .taken) (a .4 .result) (a .4 .ensures) (a .10) (a .11 ∙ a .6 .ensures) (a .13))
+    ⊎-elim (λ a. call-loudly (session j) _ _ _ (call j) _ _ _ _ h _ _ _ (a .0 .taken) (a .4 .result) (a .4 .ensures) (a .10) (a .11 ∙ a .6 .ensures) (a .13))
     (⊎-elim
-    (λ b. call-loudly _ _ _ _ (call j) _ _ _ _ h _ _ _ (b .0 .taken) (b .4 .result) (b .4 .ensures) (b .9)
+    (λ b. call-loudly (session j) _ _ _ (call j) _ _ _ _ h _ _ _ (b .0 .taken) (b .4 .result) (b .4 .ensures) (b .9)
     (b .10 ∙ same-is _ _ (sym (b .7 .ensures) ∙ not-false _ (b .8 .left)) ∙ b .6 .ensures) (b .12))
-    (λ c. call-quietly _ _ _ _ (call j) _ _ _ _ h _ _ _ (c .0 .left) (c .1) (c .2) (c .4)))
+    (λ c. call-quietly (session j) _ _ _ (call j) _ _ _ _ h _ _ _ (c .0 .left) (head (stood j) .loop .inv .3 .reading) (c .1) (c .2) (c .4)))
     (j .if2 .came)
 
 slice-aggregate-put-row : tie.Need-slice-aggregate-put-row Inv-loop μ-loop
