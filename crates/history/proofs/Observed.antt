@@ -2,8 +2,9 @@
 -- lost than there are. Assumes nothing.
 use Prim.Native.Nat.{ℕ, _+_, _-_, _^_, _≤_}
 use mathlib.Core.Path.{_≡_, refl, sym}
-use mathlib.Core.Bool.{Bool, true, false, cond, _&&_, _||_, true≢false}
+use mathlib.Core.Bool.{Bool, true, false, cond, _&&_, _||_}
 use mathlib.Core.List.{List}
+use mathlib.Mathlib.Data.Bool.Basic.{or-eq-false-eq-eq-false-and-eq-false}
 use native.Mathlib.Omega.{arith}
 use borrow.Author.Tests.{ltb-false, le-leb, le-ltb, ne-eqb}
 use lib.Dec.{leb, ltb}
@@ -73,12 +74,9 @@ abbrev beyond : (packets bytes : ℕ) → Bool
 beyond packets bytes = ltb (10 ^ 9) packets || ltb (10 ^ 12) bytes
 
 not-beyond : (packets bytes : ℕ) → beyond packets bytes ≡ false → (packets ≤ 10 ^ 9) × (bytes ≤ 10 ^ 12)
-not-beyond packets bytes = go (ltb (10 ^ 9) packets) (ltb (10 ^ 12) bytes) refl refl
-  where
-    go : (a b : Bool) → ltb (10 ^ 9) packets ≡ a → ltb (10 ^ 12) bytes ≡ b → (a || b) ≡ false → (packets ≤ 10 ^ 9) × (bytes ≤ 10 ^ 12)
-    go true b e f n = absurd (true≢false n)
-    go false true e f n = absurd (true≢false n)
-    go false false e f n = (ltb-false (10 ^ 9) packets e, ltb-false (10 ^ 12) bytes f)
+not-beyond packets bytes n =
+    let k = or-eq-false-eq-eq-false-and-eq-false (ltb (10 ^ 9) packets) (ltb (10 ^ 12) bytes) .0 n in
+    (ltb-false (10 ^ 9) packets (k .0), ltb-false (10 ^ 12) bytes (k .1))
 
 module _ (q : PartialObservation) (s : PacketResultsSummary) where
   updated-beyond : beyond (q .«num_packets» + s .«num_packets») (q .size + s .«total_size») ≡ true → Partial.updated q s ≡ Partial.refused q 10
