@@ -1,6 +1,8 @@
--- What holds of each element of a list: of parts of the list, of lists made from it, and of its fold. Assumes nothing.
+-- What holds of each element of a list: of parts of the list, of the list in another order, of lists made from it, and of its fold. Assumes nothing.
 use Prim.Native.Nat.{ℕ, zero, suc}
+use mathlib.Core.Path.{sym, subst}
 use mathlib.Core.List.{List, [], _∷_, _++_, map, foldl}
+use mathlib.Core.List.{List·Permᴰ, List·Permᴰ·nil, List·Permᴰ·cons, List·Permᴰ·swap, List·Permᴰ·trans}
 use lib.ListN.{take, set, replicate}
 
 -- P holds of each element
@@ -19,6 +21,13 @@ module _ {A : Type 0} {P : A → Type 0} where
   each-take zero p = none
   each-take (suc n) none = none
   each-take (suc n) (more x p) = more x (each-take n p)
+
+  -- in another order
+  pub each-perm : {l r : List A} → List·Permᴰ l r → Each P r → Each P l
+  each-perm List·Permᴰ·nil p = p
+  each-perm (List·Permᴰ·cons e d) (more x p) = more (subst P (sym e) x) (each-perm d p)
+  each-perm (List·Permᴰ·swap e f) (more x (more y p)) = more (subst P (sym e) y) (more (subst P (sym f) x) p)
+  each-perm (List·Permᴰ·trans d e) p = each-perm d (each-perm e p)
 
   -- with another element in place n
   pub each-set : (n : ℕ) {l : List A} (y : A) → P y → Each P l → Each P (set l n y)

@@ -2,13 +2,14 @@
 -- lost than there are. Assumes nothing.
 use Prim.Native.Nat.{ℕ, _+_, _-_, _^_, _≤_}
 use mathlib.Core.Path.{_≡_, refl, sym}
-use mathlib.Core.Bool.{Bool, true, false, cond, _&&_, _||_, true≢false}
+use mathlib.Core.Bool.{Bool, true, false, cond, _&&_, _||_}
 use mathlib.Core.List.{List}
+use mathlib.Mathlib.Data.Bool.Basic.{or-eq-false-eq-eq-false-and-eq-false}
 use native.Mathlib.Omega.{arith}
 use borrow.Author.Tests.{ltb-false, le-leb, le-ltb, ne-eqb}
 use lib.Dec.{leb, ltb}
 use lib.Ieee.{inFloat}
-use Rattle.float.proofs.Refusal.{either, tested}
+use Rattle.float.proofs.Refusal.{agreed, either, tested}
 use Rattle.time.specs.Delta as Delta
 use Rattle.time.specs.declared.TimeDelta.{TimeDelta}
 use Rattle.time.specs.declared.Timestamp.the-variants.{Exact}
@@ -73,12 +74,9 @@ abbrev beyond : (packets bytes : ℕ) → Bool
 beyond packets bytes = ltb (10 ^ 9) packets || ltb (10 ^ 12) bytes
 
 not-beyond : (packets bytes : ℕ) → beyond packets bytes ≡ false → (packets ≤ 10 ^ 9) × (bytes ≤ 10 ^ 12)
-not-beyond packets bytes = go (ltb (10 ^ 9) packets) (ltb (10 ^ 12) bytes) refl refl
-  where
-    go : (a b : Bool) → ltb (10 ^ 9) packets ≡ a → ltb (10 ^ 12) bytes ≡ b → (a || b) ≡ false → (packets ≤ 10 ^ 9) × (bytes ≤ 10 ^ 12)
-    go true b e f n = absurd (true≢false n)
-    go false true e f n = absurd (true≢false n)
-    go false false e f n = (ltb-false (10 ^ 9) packets e, ltb-false (10 ^ 12) bytes f)
+not-beyond packets bytes n =
+    let k = or-eq-false-eq-eq-false-and-eq-false (ltb (10 ^ 9) packets) (ltb (10 ^ 12) bytes) .0 n in
+    (ltb-false (10 ^ 9) packets (k .0), ltb-false (10 ^ 12) bytes (k .1))
 
 module _ (q : PartialObservation) (s : PacketResultsSummary) where
   updated-beyond : beyond (q .«num_packets» + s .«num_packets») (q .size + s .«total_size») ≡ true → Partial.updated q s ≡ Partial.refused q 10
@@ -100,11 +98,6 @@ module _ (q : PartialObservation) (s : PacketResultsSummary) where
 
 -- ---- a report
 
--- the refusal of an answer that a test chooses
-chosen : (b : Bool) (x y : AddedAnswer) {m n : ℕ} → x .refusal ≡ m → y .refusal ≡ n → cond b x y .refusal ≡ cond b m n
-chosen true x y e f = e
-chosen false x y e f = f
-
 module _ (o : Observations) (h : History) (t : Tied o h) (s : PacketResultsSummary) (counted : Counted o)
     (there : s .«num_packets» ≡ 0 → ⊥) (packets : s .«num_lost_packets» ≤ s .«num_packets») (bytes : s .«lost_size» ≤ s .«total_size») where
   abbrev over : Bool
@@ -124,8 +117,8 @@ module _ (o : Observations) (h : History) (t : Tied o h) (s : PacketResultsSumma
       let n = not-beyond (o .«partial_observation» .«num_packets» + s .«num_packets») (o .«partial_observation» .size + s .«total_size») e in
       let part : o .«partial_observation» .«lost_size» ≤ o .«partial_observation» .size = omega (arith, t .kept .part, t .bytes, t .lost) in
       rw (ne-eqb _ _ there, updated-taken (o .«partial_observation») s e (omega arith) (omega arith))
-      (chosen (Window.full o (span o s)) _ _ refl
-      (either (λ (a : AddedAnswer). a .refusal ≡ 0) (Window.completes (span o s)) _ _
+      (agreed (λ (a : AddedAnswer) (n : ℕ). a .refusal ≡ n) (Window.full o (span o s)) _ refl (λ f. refl)
+      (λ f. either (λ (a : AddedAnswer). a .refusal ≡ 0) (Window.completes (span o s)) _ _
       (completed-taken o h t (Partial.plus (o .«partial_observation») s) (span o s) (s .«last_send_time») (omega arith) (n .1) (omega arith)) refl))
 
   -- a report is refused with 10 where it passes the limits, with 11 where it completes an observation beyond the last, and never else

@@ -14,14 +14,15 @@ use lib.IntN.{pos}
 use lib.Ieee.{binary64, inFloat}
 use lib.ListN.{length, take, drop, set, replicate, length-reverse, length-replicate, take-append-drop, replicate-append-replicate}
 use lib.Seq.{take-length, drop-length, take-append-le, drop-append-le, length-take-le, take-at, drop-at, set-at, append-snoc}
-use Rattle.rounding.specs.Exact.{Measured, AllSound}
-use Rattle.rounding.proofs.AnyOrder.{sound-perm}
+use Rattle.float.proofs.Each.{Each, more, each-perm}
+use Rattle.rounding.specs.Exact.{Measured}
+use Rattle.rounding.proofs.Sums.{Sound}
 use Rattle.observation.specs.Ratio as Ratio
 use Rattle.observation.specs.Window.{dummy}
 use Rattle.observation.specs.declared.Observation.{Observation}
 use Rattle.history.specs.History.{Pair}
 use Rattle.history.specs.WeighedPairs.{aged}
-use Rattle.history.proofs.Kept.{SoundPairs, aged-sound}
+use Rattle.history.proofs.Kept.{SoundPair, aged-sound}
 
 -- ---- a list turned at r: the first r backwards, then the others backwards
 module _ {A : Type 0} where
@@ -161,14 +162,14 @@ unfolding inFloat
 fits bytes h = le-leb bytes (2 ^ 53) (omega arith)
 
 -- every size of a sound window goes to a float
-sound-readable : (n : ℕ) (os : List Observation) → AllSound (Ratio.window n os) → Ratio.readable os ≡ true
+sound-readable : (n : ℕ) (os : List Observation) → Each Sound (Ratio.window n os) → Ratio.readable os ≡ true
 unfolding Ratio.window Ratio.readable
 sound-readable n [] s = refl
 sound-readable n (o ∷ os) s = go (o .«is_initialized») refl s (sound-readable n os)
   where
-    go : (b : Bool) → o .«is_initialized» ≡ b → AllSound (cond b (Ratio.measured n o ∷ Ratio.window n os) (Ratio.window n os))
-        → (AllSound (Ratio.window n os) → Ratio.readable os ≡ true) → Ratio.readable (o ∷ os) ≡ true
-    go true e (s, ss) rest = rw (e, fits (o .size) (s .bounded), fits (o .«lost_size») (omega arith)) (rest ss)
+    go : (b : Bool) → o .«is_initialized» ≡ b → Each Sound (cond b (Ratio.measured n o ∷ Ratio.window n os) (Ratio.window n os))
+        → (Each Sound (Ratio.window n os) → Ratio.readable os ≡ true) → Ratio.readable (o ∷ os) ≡ true
+    go true e (more s ss) rest = rw (e, fits (o .size) (s .bounded), fits (o .«lost_size») (omega arith)) (rest ss)
     go false e ss rest = rw e (rest ss)
 
 -- ---- slots that hold a history's pairs
@@ -181,5 +182,5 @@ module _ (n : ℕ) (ps : List Pair) (os : List Observation) (same : map held os 
       rw (window-is n os, same) (rw read at (Permᴰ·filterMap (seen n) (turned-perm (n % 15) (byAge 15 n ps))))
 
   -- and every size of them goes to a float
-  pub slots-readable : SoundPairs ps → Ratio.readable os ≡ true
-  slots-readable within = sound-readable n os (sound-perm slots-window (aged-sound 0 ps (omega arith) within))
+  pub slots-readable : Each SoundPair ps → Ratio.readable os ≡ true
+  slots-readable sound = sound-readable n os (each-perm slots-window (aged-sound 0 ps (omega arith) sound))

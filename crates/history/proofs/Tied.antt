@@ -9,7 +9,7 @@ use borrow.Author.Tests.{ltb-false}
 use lib.Dec.{eqb, leb, ltb, lit<}
 use lib.IntN.{pos}
 use lib.Ieee.{eq, lt, ofBits}
-use Rattle.float.proofs.Refusal.{accepted, tested, checked}
+use Rattle.float.proofs.Refusal.{accepted}
 use Rattle.rounding.specs.Ratio.{lossRatio}
 use Rattle.bandwidth.specs.Size as Size
 use Rattle.time.specs.Delta as Delta

@@ -1,14 +1,12 @@
 -- The smaller of a rate and a ceiling: finite with its sign clear, and under the ceiling where it is set. Assumes nothing.
 use Prim.Native.Nat.{ℕ, _*_, _≤_}
-use mathlib.Core.Bool.{true, false}
 use lib.Dec.{T}
-use lib.Ieee.{Float, nan, inf, fin, isNan, lt}
+use lib.Ieee.{Float, fin, isNan, lt}
 use Rattle.float.specs.Rust.{minimum}
 use Rattle.float.proofs.Refusal.{tested}
-use Rattle.rounding.specs.Exact.{Capped}
 use Rattle.rounding.specs.Plain.{plain}
 use Rattle.rounding.proofs.Order.{under-of-not-lt}
-use Rattle.rounding.proofs.Ceiling.{under-ceiling}
+use Rattle.rounding.proofs.Ceiling.{Capped, under-ceiling}
 use Rattle.history.specs.Demand.{UnderLossCeiling}
 
 -- where r is 1/20 or more, the smaller of a plain float and a ceiling that is set is under it

@@ -11,15 +11,18 @@ use lib.ListN.{length}
 use lib.Ieee.{Float, nan, inf, fin, lt}
 use lib.Ieee.Scale.{finite}
 use Rattle.float.specs.Answer.{answered}
+use Rattle.float.proofs.Each.{Each, each-perm}
 use Rattle.float.proofs.Refusal.{either}
 use Rattle.bandwidth.specs.Rate as Rate
 use Rattle.bandwidth.specs.declared.RateAnswer.{RateAnswer}
 use Rattle.config.specs.Config as Config
-use Rattle.rounding.specs.Exact.{Measured, exactWeight, exactSum, exactTotal, AllSound, Close, Capped}
+use Rattle.rounding.specs.Exact.{Measured, exactWeight, exactSum, exactTotal, Close}
 use Rattle.rounding.specs.Plain.{plain}
 use Rattle.rounding.specs.Ratio.{lossRatio, lossCeiling}
+use Rattle.rounding.proofs.Sums.{Sound}
 use Rattle.rounding.proofs.Ratio.{ratio-not-above-one}
-use Rattle.rounding.proofs.AnyOrder.{sound-perm, length-perm, close-any-order, ceiling-any-order}
+use Rattle.rounding.proofs.Ceiling.{Capped}
+use Rattle.rounding.proofs.AnyOrder.{length-perm, close-any-order, ceiling-any-order}
 use Rattle.observation.specs.Ratio as Ratio
 use Rattle.observation.specs.declared.Observations.{Observations}
 use Rattle.observation.proofs.Plain.{limit-is-ceiling}
@@ -62,7 +65,7 @@ module _ (o : Observations) (h : History) (t : Tied o h) where
   any-order : List·Permᴰ read (window h)
   any-order = rw (t .count) (slots-window (h .count) (h .pairs) (o .observations) (t .slots) (t .kept .counted) (t .kept .few))
 
-  sound : AllSound (window h)
+  sound : Each Sound (window h)
   sound = aged-sound 0 (h .pairs) (omega (arith, t .kept .few)) (t .kept .sound)
 
   short : length (window h) ≤ 15
@@ -79,7 +82,7 @@ module _ (o : Observations) (h : History) (t : Tied o h) where
 
   -- nor is it above 1.0
   pub tied-not-above-one : lt Config.«high_loss_rate_threshold» (lossRatio read) ≡ false
-  tied-not-above-one = ratio-not-above-one read (sound-perm any-order sound) (rw (length-perm any-order) short)
+  tied-not-above-one = ratio-not-above-one read (each-perm any-order sound) (rw (length-perm any-order) short)
 
   -- so the ceiling is not refused
   pub tied-ceiling-taken : Ratio.instantUpperBound o .refusal ≡ 0

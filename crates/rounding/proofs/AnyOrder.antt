@@ -4,8 +4,10 @@ use mathlib.Core.List.{List, List·Permᴰ, List·Permᴰ·nil, List·Permᴰ·c
 use Prim.Native.Nat.{ℕ, suc, _*_, _≤_, _<_}
 use native.Mathlib.Nat.{add-left-comm}
 use lib.ListN.{length}
-use Rattle.rounding.specs.Exact.{Measured, exactWeight, exactSum, exactTotal, exactLost, AllSound, Close}
+use Rattle.float.proofs.Each.{Each, each-perm}
+use Rattle.rounding.specs.Exact.{Measured, exactWeight, exactSum, exactTotal, exactLost, Close}
 use Rattle.rounding.specs.Ratio.{lossRatio}
+use Rattle.rounding.proofs.Sums.{Sound}
 use Rattle.rounding.proofs.Ratio.{ratio-close}
 use Rattle.rounding.proofs.Ceiling.{SetsCeiling, ratio-sets-ceiling}
 
@@ -18,12 +20,6 @@ exact-perm size (List·Permᴰ·swap {a = a} {b = b} {l = l} e f) =
     rw (← e, ← f) (add-left-comm (exactWeight (a .age) * size a) (exactWeight (b .age) * size b) (exactSum size l))
 exact-perm size (List·Permᴰ·trans d e) = exact-perm size d ∙ exact-perm size e
 
-pub sound-perm : {os hs : List Measured} → List·Permᴰ os hs → AllSound hs → AllSound os
-sound-perm List·Permᴰ·nil s = s
-sound-perm (List·Permᴰ·cons e d) (s, ss) = (rw e s, sound-perm d ss)
-sound-perm (List·Permᴰ·swap e f) (s, (s', ss)) = (rw e s', (rw f s, ss))
-sound-perm (List·Permᴰ·trans d e) s = sound-perm d (sound-perm e s)
-
 pub length-perm : {os hs : List Measured} → List·Permᴰ os hs → length os ≡ length hs
 length-perm List·Permᴰ·nil = refl
 length-perm (List·Permᴰ·cons e d) = ap suc (length-perm d)
@@ -31,7 +27,7 @@ length-perm (List·Permᴰ·swap e f) = refl
 length-perm (List·Permᴰ·trans d e) = length-perm d ∙ length-perm e
 
 -- ---- os is the window as it is summed, hs the same in another order
-module _ (os hs : List Measured) (perm : List·Permᴰ os hs) (sound : AllSound hs) (short : length hs ≤ 15) (some : 0 < exactTotal hs) where
+module _ (os hs : List Measured) (perm : List·Permᴰ os hs) (sound : Each Sound hs) (short : length hs ≤ 15) (some : 0 < exactTotal hs) where
   total-is : exactTotal os ≡ exactTotal hs
   total-is = exact-perm (λ (o : Measured). o .total) perm
 
@@ -46,10 +42,10 @@ module _ (os hs : List Measured) (perm : List·Permᴰ os hs) (sound : AllSound 
 
   -- the ratio is within r/2^46 of the r of hs
   pub close-any-order : Close (lossRatio os) (exactLost hs) (exactTotal hs)
-  close-any-order = rw (lost-is, total-is) at (ratio-close os (sound-perm perm sound) short' some')
+  close-any-order = rw (lost-is, total-is) at (ratio-close os (each-perm perm sound) short' some')
 
   -- and where that is at least 0.06 it sets its ceiling
   pub ceiling-any-order : 6 * exactTotal hs ≤ 100 * exactLost hs → SetsCeiling (lossRatio os) (exactLost hs) (exactTotal hs)
   ceiling-any-order six =
       let six' : 6 * exactTotal os ≤ 100 * exactLost os = rw (lost-is, total-is) six in
-      rw (lost-is, total-is) at (ratio-sets-ceiling os (sound-perm perm sound) short' some' six')
+      rw (lost-is, total-is) at (ratio-sets-ceiling os (each-perm perm sound) short' some' six')

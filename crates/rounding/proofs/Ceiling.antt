@@ -6,20 +6,23 @@ use Prim.Native.Nat.{ℕ, _+_, _-_, _*_, _^_, _≤_, _<_}
 use native.Mathlib.Nat.{le-trans, mul-le-mul-right, le-of-mul-le-mul-right, sub-add-cancel}
 use native.Mathlib.Omega.{arith}
 use borrow.Author.Tests.{ne-eqb}
-use lib.Dec.{lit≤, lit<}
+use lib.Dec.{T, lit≤, lit<}
 use lib.ListN.{length}
 use lib.Ieee.{Float, eq, lt, ofBits}
 use lib.Ieee.Positive.{num, den, den-pos}
 use Rattle.float.specs.Rounded.{_⊖_, bits}
+use Rattle.float.proofs.Each.{Each}
 use Rattle.bandwidth.specs.Rate as Rate
 use Rattle.config.specs.Config as Config
-use Rattle.rounding.specs.Exact.{Measured, exactTotal, exactLost, AllSound, ceilingPart, UnderCeiling, Capped}
+use Rattle.rounding.specs.Exact.{Measured, exactTotal, exactLost, ceilingPart, UnderCeiling}
+use Rattle.rounding.specs.Plain.{plain}
 use Rattle.rounding.specs.Ratio.{lossRatio, lossCeiling}
 use Rattle.rounding.proofs.Parts.{within-share}
 use Rattle.rounding.proofs.Round.{Near, ranged}
 use Rattle.rounding.proofs.Operations.{eq-zero}
 use Rattle.rounding.proofs.Near.{near-more, near-terms, near-pos, near-exact, near-test, near-of-test, div-near, Cancels, sub-near, near-lt}
 use Rattle.rounding.proofs.Order.{Under}
+use Rattle.rounding.proofs.Sums.{Sound}
 use Rattle.rounding.proofs.Ratio.{lost-part, total-bounded, ratio-near}
 
 abbrev lossOffset : Float
@@ -36,6 +39,12 @@ balance-near = near-exact _ 100000 1 (refl, refl) (lit< tt)
 -- r is 6 times r - 1/20 at most: 47 parts of it are less than 1 / 2 ^ 47, and 769 parts of the difference
 cancels : Cancels 47 6 (2 ^ 47) 769
 cancels = record { some = lit< tt; enough = lit≤ tt; shares = lit≤ tt; parts = lit≤ tt; few = lit≤ tt }
+
+-- x is under the ceiling, and no more below it than it may be above
+pub record Capped (x : Float) (l t : ℕ) : Type 0 where
+  pub plainly : T (plain x)
+  pub above : UnderCeiling x l t
+  pub below : 2000000 * t * den x * ceilingPart + num x * t * ceilingPart ≤ num x * (20 * l) * ceilingPart + 2000000 * t * den x
 
 -- What a ratio x near l / t sets: the branch for a ratio above 0.05 is taken, and its rate is within one part in 2^40 of the exact ceiling
 pub record SetsCeiling (x : Float) (l t : ℕ) : Type 0 where
@@ -85,7 +94,7 @@ module _ {x : Float} {l t : ℕ} (near : Near 47 x l t) (part : l ≤ t) (most :
       }
 
 -- ---- the ratio of a sound window of at most fifteen observations with r at least 0.06 sets a ceiling
-pub ratio-sets-ceiling : (os : List Measured) → AllSound os → length os ≤ 15 → 0 < exactTotal os → 6 * exactTotal os ≤ 100 * exactLost os
+pub ratio-sets-ceiling : (os : List Measured) → Each Sound os → length os ≤ 15 → 0 < exactTotal os → 6 * exactTotal os ≤ 100 * exactLost os
     → SetsCeiling (lossRatio os) (exactLost os) (exactTotal os)
 ratio-sets-ceiling os sound short some six =
     sets-ceiling (ratio-near os sound short some) (lost-part os sound short) (total-bounded os sound short) six (20 * exactLost os - exactTotal os)

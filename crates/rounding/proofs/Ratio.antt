@@ -12,17 +12,18 @@ use lib.ListN.{length}
 use lib.Ieee.{lt, ofBits}
 use lib.Ieee.Positive.{num}
 use Rattle.float.specs.Rounded.{_⊘_, bits}
+use Rattle.float.proofs.Each.{Each}
 use Rattle.config.specs.Config as Config
-use Rattle.rounding.specs.Exact.{Measured, exactTotal, exactLost, AllSound, ratioPart, Close}
+use Rattle.rounding.specs.Exact.{Measured, exactTotal, exactLost, ratioPart, Close}
 use Rattle.rounding.specs.Ratio.{floatTotal, floatLost, lossRatio}
 use Rattle.rounding.proofs.Parts.{within-share}
 use Rattle.rounding.proofs.Round.{Near, ranged}
 use Rattle.rounding.proofs.Operations.{eq-zero}
 use Rattle.rounding.proofs.Near.{near-more, near-terms, near-pos, near-zero, div-near}
 use Rattle.rounding.proofs.Order.{under-not-lt, div-under-one}
-use Rattle.rounding.proofs.Sums.{Sums, window-sums}
+use Rattle.rounding.proofs.Sums.{Sound, Sums, window-sums}
 
-module _ (os : List Measured) (sound : AllSound os) (short : length os ≤ 15) where
+module _ (os : List Measured) (sound : Each Sound os) (short : length os ≤ 15) where
   sums : Sums (length os) (floatLost os) (floatTotal os) (exactLost os) (exactTotal os)
   sums = window-sums os sound short
 

@@ -13,13 +13,20 @@ use lib.ListN.{length}
 use lib.Ieee.{Float, binary64, ofInt, ofBits}
 use lib.Ieee.Positive.{num, den}
 use Rattle.float.specs.Rounded.{_⊕_, _⊗_, bits}
+use Rattle.float.proofs.Each.{Each, none, more}
 use Rattle.logarithm.specs.Power.{weight}
-use Rattle.rounding.specs.Exact.{Measured, exactWeight, exactSum, exactTotal, exactLost, Sound, AllSound}
+use Rattle.rounding.specs.Exact.{Measured, exactWeight, exactSum, exactTotal, exactLost}
 use Rattle.rounding.specs.Ratio.{addWeighted, floatTotal, floatLost}
 use Rattle.rounding.proofs.Round.{Near, ranged}
 use Rattle.rounding.proofs.Near.{near-more, near-terms, near-exact, whole-near, mul-near, add-near}
 use Rattle.rounding.proofs.Order.{Under, whole-under, mul-under, add-under}
 use Rattle.rounding.proofs.Weight.{weight-near}
+
+-- the observations of which the laws speak: an age below 15, a total up to 10^12 (code 10), and no more lost than there was
+pub record Sound (o : Measured) : Type 0 where
+  pub young : o .age < 15
+  pub bounded : o .total ≤ 10 ^ 12
+  pub part : o .lost ≤ o .total
 
 -- ---- one term
 tens : (age : ℕ) → age < 15 → 10 ^ age * 10 ^ (14 - age) ≡ 10 ^ 14
@@ -90,15 +97,15 @@ sums-step {i} {l} {t} {x} {y} o s h a =
       most = let k = a .most in omega arith;
     }
 
-sums-fold : (os : List Measured) {i l t : ℕ} {x y : Float} → AllSound os → i + length os ≤ 15 → Sums i x y l t
+sums-fold : (os : List Measured) {i l t : ℕ} {x y : Float} → Each Sound os → i + length os ≤ 15 → Sums i x y l t
     → Sums (i + length os) (foldl (addWeighted (λ (o : Measured). o .lost)) x os) (foldl (addWeighted (λ (o : Measured). o .total)) y os)
     (l + exactLost os) (t + exactTotal os)
 unfolding exactSum
-sums-fold [] s h a = simp add-zero a
-sums-fold (o ∷ os) {i} {l} {t} (s, ss) h a =
+sums-fold [] none h a = simp add-zero a
+sums-fold (o ∷ os) {i} {l} {t} (more s ss) h a =
     let e : 1 + i + length os ≡ i + suc (length os) = omega arith in
     rw (e, add-assoc l, add-assoc t) at (sums-fold os ss (omega arith) (sums-step o s (omega arith) a))
 
 -- the two sums of a window
-pub window-sums : (os : List Measured) → AllSound os → length os ≤ 15 → Sums (length os) (floatLost os) (floatTotal os) (exactLost os) (exactTotal os)
+pub window-sums : (os : List Measured) → Each Sound os → length os ≤ 15 → Sums (length os) (floatLost os) (floatTotal os) (exactLost os) (exactTotal os)
 window-sums os s h = simp zero-add at (sums-fold os {i = 0} s (omega arith) start)

@@ -1,6 +1,6 @@
 -- The loss ratio of a window in whole numbers, and how near the floats have to come to it (document 01, "Demand 3 is stated in whole numbers").
 -- What is measured, bytes or packets, is not said here. Definitions only.
-use Prim.Native.Nat.{ℕ, _+_, _-_, _*_, _^_, _≤_, _<_}
+use Prim.Native.Nat.{ℕ, _+_, _-_, _*_, _^_, _≤_}
 use mathlib.Core.List.{List, [], _∷_}
 use lib.Dec.{T}
 use lib.Ieee.{Float}
@@ -45,21 +45,3 @@ pub record Close (x : Float) (l t : ℕ) : Type 0 where
 -- a finite x with its sign clear exceeds 100,000 / (r - 1/20), which is 2,000,000 t / (20 l - t), by no more than one part in `ceilingPart`
 abbrev pub UnderCeiling : Float → ℕ → ℕ → Type 0
 UnderCeiling x l t = num x * (20 * l) * ceilingPart ≤ 2000000 * t * den x * (ceilingPart + 1) + num x * t * ceilingPart
-
--- ---- what follows serves proofs: no statement cites it
-
--- the windows of which the laws speak: ages below 15, totals up to 10^12 (code 10), and no more lost than there was
-pub record Sound (o : Measured) : Type 0 where
-  pub young : o .age < 15
-  pub bounded : o .total ≤ 10 ^ 12
-  pub part : o .lost ≤ o .total
-
-abbrev pub AllSound : List Measured → Type 0
-AllSound [] = Unit {0}
-AllSound (o ∷ os) = Sound o × AllSound os
-
--- x is under the ceiling so, and no more below it
-pub record Capped (x : Float) (l t : ℕ) : Type 0 where
-  pub plainly : T (plain x)
-  pub above : UnderCeiling x l t
-  pub below : 2000000 * t * den x * ceilingPart + num x * t * ceilingPart ≤ num x * (20 * l) * ceilingPart + 2000000 * t * den x

@@ -13,6 +13,11 @@ use Rattle.rounding.specs.Ratio.{lossRatio, lossCeiling}
 abbrev of-age : ℕ → ℕ → ℕ → Measured
 of-age age total lost = record { age = age; total = total; lost = lost }
 
+-- no observation
+no-total : toBits binary64 (lossRatio []) ≡ 0
+unfolding lossRatio eq ofBits toBits
+no-total = refl
+
 -- one observation: 50 of 1,000 lost sets no ceiling, 100 of 1,000 one of 2,000,000 bit/s
 no-ceiling : lt Config.«instant_upper_bound_loss_offset» (lossRatio (of-age 0 1000 50 ∷ [])) ≡ false
 unfolding lossRatio weight add div eq lt mul ofBits ofInt
