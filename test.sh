@@ -1,9 +1,10 @@
 #!/bin/sh
-# All tests. Where rustc is at hand, first what the oracle can show by itself and that the stored
-# answers are what it makes today; then the gate, which needs the Rattle kit alone. Its last line is
+# All tests. First the usage texts of ./falghenti; where rustc is at hand, what the oracle can show by
+# itself and that the stored answers are what it makes today; then the gate, which needs the Rattle kit alone. Its last line is
 # 'N passed, 0 failed'.
 set -eu
 cd "$(dirname "$0")"
+tools/usage.sh
 if command -v rustc >/dev/null 2>&1; then
     oracle/quick.sh
     oracle/levels.sh arithmetic replay
