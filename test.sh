@@ -1,7 +1,7 @@
 #!/bin/sh
 # All tests. First the usage texts of ./falghenti; where rustc is at hand, what the oracle can show by
-# itself and that the stored answers are what it makes today; then the gate, which needs the Rattle kit alone. Its last line is
-# 'N passed, 0 failed'.
+# itself and that the stored answers are what it makes today; then the gate, which needs the Rattle kit
+# alone. Its last line is 'N passed, 0 failed'.
 set -eu
 cd "$(dirname "$0")"
 tools/usage.sh
