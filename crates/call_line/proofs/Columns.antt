@@ -1,22 +1,19 @@
 -- A line's columns by their number. Assumes nothing.
-use Prim.Native.Nat.{ℕ, zero, suc, _+_, _-_, _*_, _^_, _≤_, _<_}
+use Prim.Native.Nat.{ℕ, zero, suc, _+_, _-_, _≤_, _<_}
 use mathlib.Core.Path.{_≡_, refl, sym, ap, _∙_}
-use mathlib.Core.Bool.{Bool, true, false, cond}
 use mathlib.Core.List.{List, [], _∷_}
 use native.Mathlib.Decide.{decLt}
-use native.Mathlib.Nat.{add-zero, zero-add, suc-add, add-assoc, zero-sub}
-use native.Mathlib.Numerals.{unary-clauses}
+use native.Mathlib.Nat.{add-zero, zero-add, suc-add, add-assoc}
+use native.Mathlib.Numerals.{add-one}
 use native.Mathlib.Omega.{arith}
 use borrow.Author.Tests.{eq-eqb, ne-eqb}
-use lib.Dec.{eqb}
-use lib.ListN.{length, getD, take, drop, set, length-take, length-drop}
-use lib.Seq.{getD-take, getD-drop, getD-set-same, getD-set-other, take-nil, drop-drop}
+use lib.ListN.{length, getD, take, drop, set}
+use lib.Seq.{drop-cons, getD-set-same, getD-set-other}
 use Rattle.call_line.specs.declared.Number.{Number}
 use Rattle.call_line.specs.declared.Number.the-variants.{Value, Wrong}
 use Rattle.call_line.specs.declared.Fields.the-variants.{Read, Unreadable}
-use Rattle.call_line.specs.Column.{asciiSpace, asciiZero, isDigit, more, digitsOf, leadingSpaces, columnOf, start, total, cut}
+use Rattle.call_line.specs.Column.{asciiSpace, digitsOf, leadingSpaces, columnOf, start, total, cut}
 use Rattle.call_line.specs.Line.{widths, four, fieldsOf}
-use Rattle.call_line.proofs.Reading.{no-digit}
 
 -- ---- where columns start
 
@@ -27,8 +24,8 @@ start-next (w ∷ ws) zero h = simp (add-zero, zero-add)
 start-next (w ∷ ws) (suc k) h =
     rw (suc-add k 1, start-next ws k (omega arith)) (sym (add-assoc w (start ws k) (getD ws k 0)))
 
--- the columns end within the line, and none has more than 20 places
-pub within : (k : ℕ) → k < 4 → (start widths k + getD widths k 0 ≤ total widths) × (getD widths k 0 ≤ 20)
+-- the columns end within the line, and none is without places
+pub within : (k : ℕ) → k < 4 → (start widths k + getD widths k 0 ≤ total widths) × (0 < getD widths k 0)
 within zero h = (omega arith, omega arith)
 within (suc zero) h = (omega arith, omega arith)
 within (suc (suc zero)) h = (omega arith, omega arith)
@@ -37,50 +34,28 @@ within (suc (suc (suc (suc k)))) h = absurd (omega arith)
 
 -- ---- the part of a line from a place to another
 
-drop-take : (n w : ℕ) (s : List ℕ) → drop n (take w s) ≡ take (w - n) (drop n s)
-drop-take zero w s = simp unary-clauses
-drop-take (suc n) zero s = simp (zero-sub)
-drop-take (suc n) (suc w) [] = simp (unary-clauses, take-nil)
-drop-take (suc n) (suc w) (x ∷ s) = simp unary-clauses (drop-take n w s)
-
 abbrev pub part : ℕ → ℕ → List ℕ → List ℕ
 part from to s = take (to - from) (drop from s)
 
-spaces-fit : (s : List ℕ) → leadingSpaces s ≤ length s
-unfolding leadingSpaces
-spaces-fit [] = omega arith
-spaces-fit (b ∷ s) = pick (spaces-fit s) (eqb b asciiSpace)
-  where
-    pick : leadingSpaces s ≤ length s → (t : Bool) → cond t (suc (leadingSpaces s)) 0 ≤ suc (length s)
-    pick h true = omega arith
-    pick h false = omega arith
+module _ (s : List ℕ) (from to : ℕ) (h : to ≤ length s) (l : from < to) where
+  part-cons : part from to s ≡ getD s from 0 ∷ part (from + 1) to s
+  part-cons =
+      let w : to - from ≡ suc (to - (from + 1)) = omega arith in
+      rw (w, drop-cons s from 0 (omega arith), add-one)
 
-module _ (s : List ℕ) (from to : ℕ) (h : to ≤ length s) where
-  length-part : length (part from to s) ≡ to - from
-  length-part = simp (length-take, length-drop) (omega arith)
+  -- a space before it says nothing
+  pub at-space : getD s from 0 ≡ asciiSpace → columnOf (part from to s) ≡ columnOf (part (from + 1) to s)
+  unfolding columnOf leadingSpaces
+  at-space e = rw part-cons (simp (eq-eqb _ _ e))
 
-  part-at : (i : ℕ) → from ≤ i → i < to → getD (part from to s) (i - from) 0 ≡ getD s i 0
-  part-at i l u =
-      getD-take (to - from) (drop from s) (i - from) 0 (omega arith)
-      ∙ getD-drop from s (i - from) 0
-      ∙ ap (λ (j : ℕ). getD s j 0) (omega arith)
+  pub at-other : (getD s from 0 ≡ asciiSpace → ⊥) → columnOf (part from to s) ≡ digitsOf (part from to s)
+  unfolding columnOf leadingSpaces
+  at-other n = rw part-cons (simp (ne-eqb _ _ n))
 
-  -- the spaces of a column, and its digits
-  pub spaces-within : leadingSpaces (part from to s) ≤ to - from
-  spaces-within = omega (arith, spaces-fit (part from to s), length-part)
-
-  pub column-is : (n : ℕ) → n ≡ leadingSpaces (part from to s) → columnOf (part from to s) ≡ digitsOf (part (from + n) to s)
-  unfolding columnOf
-  column-is n e =
-      let w : to - from - n ≡ to - (from + n) = omega arith in
-      ap (λ (k : ℕ). digitsOf (drop k (part from to s))) (sym e)
-      ∙ ap digitsOf (drop-take n (to - from) (drop from s) ∙ ap (take (to - from - n)) (drop-drop n from s))
-      ∙ ap (λ (k : ℕ). digitsOf (take k (drop (from + n) s))) w
-
-  pub no-digit-at : (i : ℕ) → from ≤ i → i < to → isDigit (getD s i 0) ≡ false → digitsOf (part from to s) ≡ Wrong
-  no-digit-at i l u o =
-      let e = part-at i l u in
-      no-digit (part from to s) (i - from) (rw length-part (omega arith)) (rw e o)
+  -- nothing but spaces
+  pub blank : getD s from 0 ≡ asciiSpace → from + 1 ≡ to → columnOf (part from to s) ≡ Wrong
+  unfolding columnOf leadingSpaces digitsOf
+  blank e q = let z : to - (from + 1) ≡ 0 = omega arith in at-space e ∙ rw z
 
 -- ---- four columns
 

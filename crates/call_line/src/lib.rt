@@ -4,7 +4,7 @@ ghost use mathlib.Core.Bool.{true};
 ghost use Prim.Native.Nat.{_≤_};
 ghost use lib.ListN.{length};
 ghost use Rattle.packets.specs.Summary.{largestPacket};
-ghost use Rattle.call_line.specs.Column.{isDigit, leadingSpaces, digitsOf, column};
+ghost use Rattle.call_line.specs.Column.{isDigit, digitsOf, column};
 ghost use Rattle.call_line.specs.Line.{alone, flagged, allowed, fieldsOf, inTable, rateCode, unlessRefused, alrOf, capacityOf, packetOf};
 ghost use Rattle.call_line.specs.Line.{reportOf, callOf, lineOf};
 use bandwidth::Bitrate;
@@ -20,8 +20,8 @@ pub const LINE_WIDTH: usize = WIDTHS[0] + WIDTHS[1] + WIDTHS[2] + WIDTHS[3];
 // The largest PacketSize
 const MOST_BYTES: u64 = 65_535;
 
-// The most that may stand before a number's last digit
-const MOST_TENS: u64 = u64::MAX / 10;
+// The digits of u64::MAX
+const MOST_DIGITS: usize = 20;
 
 // What a column says.
 enum Number {
@@ -68,19 +68,6 @@ fn is_digit(byte: u8) -> bool
     byte <= b'9'
 }
 
-fn leading_spaces(column: &[u8]) -> usize
-    ensures { λ r. ⌜ r ≡ leadingSpaces (now (column .entry)) ⌝ }
-{
-    let mut i = 0;
-    while i < column.len() {
-        if column[i] != b' ' {
-            return i;
-        }
-        i += 1;
-    }
-    i
-}
-
 // The number in a column's digits. Wrong without digits, with a zero before others, with a byte that
 // is no digit, and above 2^64 - 1.
 fn read_number(digits: &[u8]) -> Number
@@ -94,24 +81,29 @@ fn read_number(digits: &[u8]) -> Number
             return Number::Wrong;
         }
     }
-    let mut value: u64 = 0;
+    if digits.len() > MOST_DIGITS {
+        return Number::Wrong;
+    }
+    let last = digits.len() - 1;
+    let mut tens: u64 = 0;
     let mut i = 0;
-    while i < digits.len() {
+    // The digits before the last are at most 19, so that they do not pass a u64.
+    while i < last {
         let byte = digits[i];
         i += 1;
         if !is_digit(byte) {
             return Number::Wrong;
         }
-        let digit = (byte - b'0') as u64;
-        if value > MOST_TENS {
-            return Number::Wrong;
-        }
-        if digit > u64::MAX - value * 10 {
-            return Number::Wrong;
-        }
-        value = value * 10 + digit;
+        tens = tens * 10 + (byte - b'0') as u64;
     }
-    Number::Value(value)
+    if !is_digit(digits[last]) {
+        return Number::Wrong;
+    }
+    let digit = (digits[last] - b'0') as u64;
+    if tens > (u64::MAX - digit) / 10 {
+        return Number::Wrong;
+    }
+    Number::Value(tens * 10 + digit)
 }
 
 // The first wrong column ends the reading.
@@ -126,13 +118,13 @@ fn read_fields(line: &[u8]) -> Fields
     let mut k = 0;
     'columns: while k < COLUMNS {
         let to = from + WIDTHS[k];
-        let first = from + leading_spaces(&line[from..to]);
-        let mut i = first;
-        while i < to {
-            if !is_digit(line[i]) {
+        let mut first = from;
+        // Spaces up to the number; a blank column is wrong.
+        while line[first] == b' ' {
+            if first + 1 == to {
                 break 'columns;
             }
-            i += 1;
+            first += 1;
         }
         match read_number(&line[first..to]) {
             Number::Value(value) => {

@@ -1,26 +1,24 @@
 -- `read_fields` meets its contract: the columns so far are read, and the first wrong one ends the reading. Assumes nothing.
 use Prim.Native.Nat.{ℕ, _+_, _-_, _≤_, _<_}
 use mathlib.Core.Path.{_≡_, refl, sym, ap, _∙_}
-use mathlib.Core.Bool.{false}
 use mathlib.Core.List.{List}
 use mathlib.Core.Logic.{⊎-elim}
 use native.Mathlib.Omega.{arith}
-use borrow.Author.Tests.{not-true}
 use borrow.Author.Needs.{needs}
 use lib.ListN.{length, getD, length-set}
 use Rattle.call_line.specs.declared.Number.the-variants.{Value, Wrong}
-use Rattle.call_line.specs.Column.{isDigit, columnOf, digitsOf, start, cut}
+use Rattle.call_line.specs.Column.{asciiSpace, columnOf, digitsOf, start, cut}
 use Rattle.call_line.specs.Line.{widths}
-use Rattle.call_line.proofs.Columns.{part, start-next, within, spaces-within, column-is, no-digit-at, cut-part, other-width, wrong-column}
+use Rattle.call_line.proofs.Columns.{part, start-next, within, at-space, at-other, blank, cut-part, other-width, wrong-column}
 use Rattle.call_line.proofs.Columns.{right-columns, one-more}
 use Rattle.call_line.proofs.read_fields.Statement.{statement}
 use Rattle.call_line.proofs.read_fields.Tie as tie
 
 abbrev Inv-loop : tie.InvT-loop
-Inv-loop line values from k to first i₀ i = (first ≤ i) × (i ≤ to)
+Inv-loop line values from k to first₀ first = (first < to) × (columnOf (part from to line) ≡ columnOf (part first to line))
 
 abbrev μ-loop : tie.MeasureT-loop
-μ-loop line values from k to first i₀ i = to - i
+μ-loop line values from k to first₀ first = to - first
 
 abbrev Inv-columns : tie.InvT-columns
 Inv-columns line values₀ from₀ k₀ values from k =
@@ -36,45 +34,29 @@ ends :
     → c .before .columns .from + getD widths (c .before .columns .k) 0 ≤ length (c .before .before .before .before .args .line .now)
 ends c = omega (arith, within (c .before .columns .k) (c .columns-test .taken))
 
-abbrev Led : Type 0
-Led = tie.After-leading-spaces Inv-loop μ-loop Inv-columns μ-columns
+-- a place before a column's number, or its first digit
+abbrev Place : Type 0
+Place = tie.At-loop Inv-loop μ-loop Inv-columns μ-columns
 
-abbrev S : Led → List ℕ
-S c = c .before .before .before .before .before .before .args .line .now
+abbrev S : Place → List ℕ
+S l = l .before .before .before .before .before .args .line .now
 
-abbrev from : Led → ℕ
-from c = c .before .before .before .columns .from
+abbrev k : Place → ℕ
+k l = l .before .before .columns .k
 
-abbrev k : Led → ℕ
-k c = c .before .before .before .columns .k
+abbrev to : Place → ℕ
+to l = l .before .before .columns .from + getD widths (k l) 0
 
-abbrev to : Led → ℕ
-to c = from c + getD widths (k c) 0
+abbrev first : Place → ℕ
+first l = l .loop .first
 
-abbrev first : Led → ℕ
-first c = from c + c .leading-spaces .result
+-- what the column says is what it says from there
+says : (l : Place) → columnOf (cut widths (k l) (S l)) ≡ columnOf (part (first l) (to l) (S l))
+says l = ap columnOf (cut-part (S l) (k l) _ (l .before .before .columns .inv .2)) ∙ l .loop .inv .1
 
--- so do its spaces
-spaces : (c : Led) → first c ≤ to c
-spaces c = omega (arith, spaces-within (S c) (from c) (to c) (ends (c .before .before)), c .leading-spaces .ensures)
-
--- what it says is what its digits say
-says : (c : Led) → columnOf (cut widths (k c) (S c)) ≡ digitsOf (part (first c) (to c) (S c))
-says c =
-    ap columnOf (cut-part (S c) (k c) (from c) (c .before .before .before .columns .inv .2))
-    ∙ column-is (S c) (from c) (to c) (ends (c .before .before)) (c .leading-spaces .result) (c .leading-spaces .ensures)
-
--- a byte behind its spaces that is no digit makes it wrong
-odd :
-    (c : Led) (i : ℕ) → first c ≤ i → i < to c → isDigit (getD (S c) i 0) ≡ false → columnOf (cut widths (k c) (S c)) ≡ Wrong
-odd c i l u n = says c ∙ no-digit-at (S c) (first c) (to c) (ends (c .before .before)) i l u n
-
--- a turn over a column's digits
-abbrev Turn : Type 0
-Turn = tie.Else2 Inv-loop μ-loop Inv-columns μ-columns
-
-abbrev head : Turn → tie.At-loop Inv-loop μ-loop Inv-columns μ-columns
-head c = c .before .before .before .before
+-- and without a space there what its digits say
+number : (l : Place) → (getD (S l) (first l) 0 ≡ asciiSpace → ⊥) → columnOf (cut widths (k l) (S l)) ≡ digitsOf (part (first l) (to l) (S l))
+number l n = says l ∙ at-other (S l) (first l) (to l) (ends (l .before)) (l .loop .inv .0) n
 
 returns : tie.Need-returns Inv-loop μ-loop Inv-columns μ-columns
 returns c = sym (other-width _ (c .if1 .taken))
@@ -91,48 +73,34 @@ array-read-to c = search needs
 add-to : tie.Need-add-to Inv-loop μ-loop Inv-columns μ-columns
 add-to c = omega (arith, ends c)
 
-sub-leading-spaces : tie.Need-sub-leading-spaces Inv-loop μ-loop Inv-columns μ-columns
-sub-leading-spaces c = search needs
+loop-holds : tie.Need-loop-holds Inv-loop μ-loop Inv-columns μ-columns
+loop-holds c = (omega (arith, within (c .before .columns .k) (c .columns-test .taken)), refl)
 
-part-leading-spaces-start :
-    tie.Need-part-leading-spaces-start Inv-loop μ-loop Inv-columns μ-columns
-part-leading-spaces-start c = search needs
+shared-slice-read-if2 : tie.Need-shared-slice-read-if2 Inv-loop μ-loop Inv-columns μ-columns
+shared-slice-read-if2 c = omega (arith, ends (c .before .before))
 
-part-leading-spaces-end : tie.Need-part-leading-spaces-end Inv-loop μ-loop Inv-columns μ-columns
-part-leading-spaces-end c = ends c
-
-leading-spaces-requires : tie.Need-leading-spaces-requires Inv-loop μ-loop Inv-columns μ-columns
-leading-spaces-requires c κs = search needs
+add-if3 : tie.Need-add-if3 Inv-loop μ-loop Inv-columns μ-columns
+add-if3 c = omega (arith, ends (c .before .before .before))
 
 add-first : tie.Need-add-first Inv-loop μ-loop Inv-columns μ-columns
-add-first c = omega (arith, ends (c .before .before), spaces c)
-
-loop-holds : tie.Need-loop-holds Inv-loop μ-loop Inv-columns μ-columns
-loop-holds c = (omega arith, spaces c)
-
-shared-slice-read-is-digit : tie.Need-shared-slice-read-is-digit Inv-loop μ-loop Inv-columns μ-columns
-shared-slice-read-is-digit c = omega (arith, ends (c .before .before .before .before .before))
-
-is-digit-requires : tie.Need-is-digit-requires Inv-loop μ-loop Inv-columns μ-columns
-is-digit-requires c κs = search needs
-
-add-i : tie.Need-add-i Inv-loop μ-loop Inv-columns μ-columns
-add-i c = omega (arith, ends (head c .before .before .before))
+add-first c = omega (arith, ends (c .before .before .before .before))
 
 loop-less : tie.Need-loop-less Inv-loop μ-loop Inv-columns μ-columns
 loop-less c = search needs
 
 loop-again : tie.Need-loop-again Inv-loop μ-loop Inv-columns μ-columns
-loop-again c = (omega arith, omega arith)
+loop-again c =
+    let l = c .before .before .before in
+    (omega arith, l .loop .inv .1 ∙ at-space (S l) (first l) (to l) (ends (l .before)) (l .loop .inv .0) (c .before .if2 .taken))
 
 sub-read-number : tie.Need-sub-read-number Inv-loop μ-loop Inv-columns μ-columns
-sub-read-number c = spaces (c .before .before)
+sub-read-number c = search needs
 
 part-read-number-start : tie.Need-part-read-number-start Inv-loop μ-loop Inv-columns μ-columns
-part-read-number-start c = spaces (c .before .before)
+part-read-number-start c = search needs
 
 part-read-number-end : tie.Need-part-read-number-end Inv-loop μ-loop Inv-columns μ-columns
-part-read-number-end c = ends (c .before .before .before .before)
+part-read-number-end c = ends (c .before .before .before)
 
 read-number-requires : tie.Need-read-number-requires Inv-loop μ-loop Inv-columns μ-columns
 read-number-requires c κs = search needs
@@ -158,12 +126,14 @@ columns-less c = search needs
 columns-again : tie.Need-columns-again Inv-loop μ-loop Inv-columns μ-columns
 columns-again c =
     let l = c .before .before .before .before .before .before .before in
-    let b = l .before .before .before in (
+    let b = l .before .before in (
       omega arith,
       simp length-set (b .columns .inv .1),
-      ap (λ (x : ℕ). x + getD widths (k l) 0) (b .columns .inv .2) ∙ sym (start-next widths (k l) (l .before .before .columns-test .taken)),
+      ap (λ (x : ℕ). x + getD widths (k l) 0) (b .columns .inv .2) ∙ sym (start-next widths (k l) (l .before .columns-test .taken)),
       one-more (S l) (b .columns .values) (k l) (c .before .value .given .0 .0) (omega arith) (b .columns .inv .3)
-          (says l ∙ sym (c .before .before .before .read-number .ensures) ∙ c .before .value .given .1),
+          (number l (c .before .before .before .before .before .if2 .left)
+          ∙ sym (c .before .before .before .read-number .ensures)
+          ∙ c .before .value .given .1),
     )
 
 returns-2 : tie.Need-returns-2 Inv-loop μ-loop Inv-columns μ-columns
@@ -174,12 +144,12 @@ returns-2 c =
     ⊎-elim
     (λ w. absurd (omega arith))
     (⊎-elim
-    (λ w. odd (record { before = record { before = record { before = l; columns-test = w .0 }; leading-spaces-arg = w .1 }; leading-spaces = w .2 })
-    (w .3 .i) (w .3 .inv .0) (omega arith) (sym (w .6 .ensures) ∙ not-true _ (w .7 .taken)))
-    (λ w. says (record { before = record { before = record { before = l; columns-test = w .0 }; leading-spaces-arg = w .1 }; leading-spaces = w .2 })
-    ∙ sym (w .6 .ensures) ∙ w .8 .given .1))
+    (λ w.
+    let p : Place = record { before = record { before = l; columns-test = w .0 }; loop = w .1 } in
+    says p ∙ blank s (first p) (to p) (ends (p .before)) (w .1 .inv .0) (w .3 .taken) (w .4 .taken))
+    (λ w. number (record { before = record { before = l; columns-test = w .0 }; loop = w .1 }) (w .3 .left) ∙ sym (w .5 .ensures) ∙ w .7 .given .1))
     (c .before .columns-test .came) in
-    sym (wrong-column s (l .before .if1 .left) (l .columns .k) (c .if3 .taken) wrong)
+    sym (wrong-column s (l .before .if1 .left) (l .columns .k) (c .if4 .taken) wrong)
 
 array-read-kind : tie.Need-array-read-kind Inv-loop μ-loop Inv-columns μ-columns
 array-read-kind c = search needs
@@ -211,15 +181,10 @@ read-fields-spec =
     mul-to
     array-read-to
     add-to
-    sub-leading-spaces
-    part-leading-spaces-start
-    part-leading-spaces-end
-    leading-spaces-requires
-    add-first
     loop-holds
-    shared-slice-read-is-digit
-    is-digit-requires
-    add-i
+    shared-slice-read-if2
+    add-if3
+    add-first
     loop-less
     loop-again
     sub-read-number
