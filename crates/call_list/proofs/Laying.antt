@@ -10,7 +10,7 @@ use borrow.Rule.Slice.PartMut.{midOf, putMid, mid-len, post-is}
 use Rattle.call_line.specs.Column.{column}
 use Rattle.call_line.proofs.RoundTrip.{length-column}
 use Rattle.call_list.specs.declared.Reading.{Reading}
-use Rattle.call_list.specs.Answer.{textOf, rowOf}
+use Rattle.call_list.specs.Answer.{textWidth, textOf, rowOf}
 use Rattle.call_list.specs.Feed.{rowWidth}
 use Rattle.call_list.specs.Pieces.{laid}
 
@@ -59,7 +59,7 @@ byte-laid s p w n b e h =
     rw (← f, ← e, add-one, drop-cons s n 0 h, ← append-assoc, set-at (take w s ++ p) (getD s n 0) (drop (suc n) s) b n l)
     (simp append-assoc)
 
-pub length-text : (r : Reading) → length (textOf r) ≡ 45
+pub length-text : (r : Reading) → length (textOf r) ≡ textWidth
 unfolding textOf
 length-text r = simp (length-append, length-column)
 

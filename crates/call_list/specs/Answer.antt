@@ -5,7 +5,7 @@ use mathlib.Core.Bool.{cond}
 use mathlib.Core.List.{List, [], _∷_, _++_}
 use lib.Dec.{ltb}
 use lib.Ieee.{binary64, toBits}
-use lib.ListN.{getD, take, set}
+use lib.ListN.{getD, take, drop, set}
 use Rattle.bandwidth.specs.declared.Bitrate.{Bitrate}
 use Rattle.bandwidth.specs.declared.OptionBitrate.{OptionBitrate}
 use Rattle.bandwidth.specs.declared.OptionBitrate.the-variants.{Some, None}
@@ -17,7 +17,7 @@ use Rattle.loss_controller.specs.Result.{lossBasedResult, inherentLoss}
 use Rattle.loss_controller.specs.declared.OptionInstant.the-variants.{Some as On, None as Off}
 use Rattle.loss_controller.specs.declared.LossController.{LossController}
 use Rattle.loss_controller.specs.declared.ControllerAnswer.{ControllerAnswer}
-use Rattle.call_line.specs.Column.{column}
+use Rattle.call_line.specs.Column.{column, total}
 use Rattle.call_line.specs.declared.Call.{Call}
 use Rattle.call_line.specs.declared.Call.the-variants.{Estimate, Acknowledged, AlrOn, AlrOff, CapacityIs, CapacityNone, Packet, Report, Read}
 use Rattle.call_line.specs.declared.Line.{Line}
@@ -128,6 +128,10 @@ answerWidths = 2 ∷ 2 ∷ 2 ∷ 20 ∷ 20 ∷ []
 -- the number n in the answer's column j
 abbrev pub inColumn : ℕ → ℕ → List ℕ
 inColumn j n = column (getD answerWidths j 0) n
+
+-- the bytes of the columns after the refusal, and of the newline
+abbrev pub textWidth : ℕ
+textWidth = total (drop 1 answerWidths) + 1
 
 -- the columns after the refusal, and the newline
 unfoldable pub textOf : Reading → List ℕ

@@ -409,10 +409,10 @@ fn text(reading: Reading) -> [u8; TEXT]
     text
 }
 
-// An answer, in out from w on.
+// A refusal and the columns after it, in out from w on.
 fn put_row(refusal: u8, text: &[u8], out: &mut [u8], w: usize)
-    requires { ⌜ (length (now text) ≡ 45) × (w + Feeding.rowWidth ≤ length (now out)) ⌝ }
-    ensures { λ _. ⌜ now (out .exit) ≡ Pieces.laid w (column 2 refusal ++ now (text .entry)) (now (out .entry)) ⌝ }
+    requires { ⌜ (length (now text) ≡ Answers.textWidth) × (w + Feeding.rowWidth ≤ length (now out)) ⌝ }
+    ensures { λ _. ⌜ now (out .exit) ≡ Pieces.laid w (Answers.inColumn 0 refusal ++ now (text .entry)) (now (out .entry)) ⌝ }
 {
     put_column(out, w, w + REFUSAL_WIDTH, refusal as u64);
     let mut k = 0;
@@ -420,6 +420,16 @@ fn put_row(refusal: u8, text: &[u8], out: &mut [u8], w: usize)
         out[w + REFUSAL_WIDTH + k] = text[k];
         k += 1;
     }
+}
+
+// An answer, in out from w on.
+fn put_answer(answer: Answer, out: &mut [u8], w: usize)
+    requires { ⌜ w + Feeding.rowWidth ≤ length (now out) ⌝ }
+    ensures { λ _. ⌜ now (out .exit) ≡ Pieces.laid w (Answers.rowOf (answer .refusal) (answer .reading)) (now (out .entry)) ⌝ }
+{
+    let reading = answer.reading;
+    let row = text(reading);
+    put_row(answer.refusal, &row, out, w);
 }
 
 // ---- a line that a chunk ends
@@ -499,6 +509,38 @@ fn same(a: Reading, b: Reading) -> bool
     a.published == b.published
 }
 
+// The text of a reading, where the one before it had the text `row`: it is seldom another.
+fn renewed(row: [u8; TEXT], before: Reading, reading: Reading) -> [u8; TEXT]
+    requires { ⌜ row ≡ Answers.textOf before ⌝ }
+    ensures { λ r. ⌜ r ≡ Answers.textOf reading ⌝ }
+{
+    if same(before, reading) {
+        return row;
+    }
+    text(reading)
+}
+
+fn progress_of(
+    controller: LossController,
+    reading: Reading,
+    queued: usize,
+    read: usize,
+    written: usize,
+) -> Progress
+    ensures { λ r.
+        ⌜ r ≡ record { session = record { controller = controller; reading = reading; queued = queued }; read = read; written = written } ⌝ }
+{
+    Progress {
+        session: Session {
+            controller,
+            reading,
+            queued,
+        },
+        read,
+        written,
+    }
+}
+
 // The lines from `from` on, up to one that is not taken or does not stand whole. A line that is
 // taken has no newline among its columns, so that they need not be searched for one.
 fn whole_lines(
@@ -538,25 +580,15 @@ fn whole_lines(
             controller = answer.controller;
             refusal = answer.refusal;
             let now = read(controller);
-            if !same(reading, now) {
-                reading = now;
-                row = text(now);
-            }
+            row = renewed(row, reading, now);
+            reading = now;
         }
         queued = quiet.queued;
         put_row(refusal, &row, out, w);
         w += ROW;
         i = end + 1;
     }
-    Progress {
-        session: Session {
-            controller,
-            reading,
-            queued,
-        },
-        read: i,
-        written: w,
-    }
+    progress_of(controller, reading, queued, i, w)
 }
 
 // ---- chunks
@@ -608,6 +640,28 @@ fn not_taken(state: State) -> Fed
     }
 }
 
+// What is left where all was taken.
+fn all_taken(line: [u8; KEPT], len: usize, session: Session, written: usize) -> Fed
+    ensures { λ r.
+        ⌜ r ≡ record {
+          taken = true;
+          state = record { line = line; len = len; controller = session .controller; queued = session .queued };
+          written = written;
+        } ⌝ }
+{
+    let controller = session.controller;
+    Fed {
+        taken: true,
+        state: State {
+            line,
+            len,
+            controller,
+            queued: session.queued,
+        },
+        written,
+    }
+}
+
 fn feed_all(
     state: State,
     times: &mut [u64; PLACES],
@@ -635,9 +689,7 @@ fn feed_all(
         if next.ended {
             let done = answer_line(session, times, sizes, flags, &line[..len]);
             let answer = done.answer;
-            let reading = answer.reading;
-            let row = text(reading);
-            put_row(answer.refusal, &row, out, w);
+            put_answer(answer, out, w);
             let answered = done.session;
             let progress = whole_lines(answered, times, sizes, flags, chunk, i, out, w + ROW);
             line = [0u8; KEPT];
@@ -647,17 +699,7 @@ fn feed_all(
             w = progress.written;
         }
     }
-    let controller = session.controller;
-    Fed {
-        taken: true,
-        state: State {
-            line,
-            len,
-            controller,
-            queued: session.queued,
-        },
-        written: w,
-    }
+    all_taken(line, len, session, w)
 }
 
 // A chunk of the input, of any length, is taken whole: the answers to the lines that end in it stand
@@ -716,19 +758,8 @@ pub fn finish(
     let session = session_of(controller, state.queued);
     let done = answer_line(session, times, sizes, flags, &line[..len]);
     let answer = done.answer;
-    let reading = answer.reading;
-    let row = text(reading);
-    put_row(answer.refusal, &row, out, 0);
+    put_answer(answer, out, 0);
     let next = done.session;
-    let controller = next.controller;
-    Fed {
-        taken: true,
-        state: State {
-            line: [0u8; KEPT],
-            len: 0,
-            controller,
-            queued: next.queued,
-        },
-        written: ROW,
-    }
+    let blank = [0u8; KEPT];
+    all_taken(blank, 0, next, ROW)
 }

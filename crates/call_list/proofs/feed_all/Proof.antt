@@ -1,6 +1,6 @@
 -- `feed_all` meets its contract: a turn answers the line that ends next, and the lines that stand whole after it. Assumes nothing.
 use Prim.Native.Nat.{ℕ, _+_, _-_, _≤_, _<_}
-use mathlib.Core.Path.{_≡_, refl, sym, ap, _∙_}
+use mathlib.Core.Path.{_≡_, refl, sym}
 use mathlib.Core.List.{List}
 use native.Mathlib.Omega.{arith}
 use borrow.Author.Needs.{needs}
@@ -8,9 +8,9 @@ use lib.ListN.{length}
 use lib.Seq.{length-take-le}
 use Rattle.call_list.specs.declared.Session.{Session}
 use Rattle.call_list.specs.declared.State.{State}
+use Rattle.call_list.specs.Answer.{rowOf}
 use Rattle.call_list.specs.Feed.{Run, width, rowWidth, blank, runs, startOf}
 use Rattle.call_list.specs.Pieces.{At}
-use Rattle.call_list.proofs.Laying.{length-text}
 use Rattle.call_list.proofs.Feeding.{KeptLine, kept-line, row-fits, one-line, no-line, line-more, line-within, line-run, go-on, all-read}
 use Rattle.call_list.proofs.feed_all.Statement.{statement}
 use Rattle.call_list.proofs.feed_all.Tie as tie
@@ -41,8 +41,8 @@ target h =
     runs (startOf (state (a .state .line) (a .state .len) (h .before .before .session-of .result)) (a .times .now) (a .sizes .now) (a .flags .now))
     (a .chunk .now)
 
-abbrev row-written : tie.After-put-row Inv-loop μ-loop → tie.Then1 Inv-loop μ-loop
-row-written c = c .before .before .before .before .before .before .before .before .before .before .before
+abbrev row-written : tie.After-put-answer Inv-loop μ-loop → tie.Then1 Inv-loop μ-loop
+row-written c = c .before .before .before .before .before .before .before .before
 
 session-of-requires : tie.Need-session-of-requires Inv-loop μ-loop
 session-of-requires c κs = search needs
@@ -86,20 +86,13 @@ slice-aggregate-answer-line c =
 answer-line-requires : tie.Need-answer-line-requires Inv-loop μ-loop
 answer-line-requires c κs = head (c .before .before .before .before .before) .before .loop .inv .reading
 
-text-requires : tie.Need-text-requires Inv-loop μ-loop
-text-requires c κs = search needs
-
-slice-aggregate-put-row : tie.Need-slice-aggregate-put-row Inv-loop μ-loop
-slice-aggregate-put-row c = sym (ap length (c .before .text .ensures) ∙ length-text _)
-
 fits : (c : tie.Then1 Inv-loop μ-loop) → (let l = head (c .before) .before .loop in l .w + rowWidth ≤ length (l .out))
 fits c =
     let h = head (c .before) in
     row-fits _ _ _ _ _ _ _ _ _ _ _ _ (h .before .loop .inv) (h .loop-test .taken) (begin h .pre .1)
 
-put-row-requires : tie.Need-put-row-requires Inv-loop μ-loop
-put-row-requires c κs =
-    (ap length (c .before .before .text .ensures) ∙ length-text _, fits (c .before .before .before .before .before .before .before .before .before .before))
+put-answer-requires : tie.Need-put-answer-requires Inv-loop μ-loop
+put-answer-requires c κs = fits (c .before .before .before .before .before .before .before)
 
 more : (c : tie.Then1 Inv-loop μ-loop) → head (c .before) .before .loop .i < c .before .before .read-on .result .read
 more c =
@@ -108,14 +101,15 @@ more c =
 
 -- it is answered
 turned :
-    (c : tie.After-put-row Inv-loop μ-loop)
+    (c : tie.After-put-answer Inv-loop μ-loop)
     → (let t = row-written c in
     let h = head (t .before) in
     let a = begin h .args in
-    let d = c .before .before .before .before .before .before .answer-line in
+    let d = c .before .before .before .answer-line in
     At (a .chunk .now) (a .out .now) (target h)
-    (d .last .1 .0) (d .last .1 .1 .0) (d .last .1 .1 .1 .0) (c .put-row .last .1 .1 .0) blank 0 (d .result .session) (h .before .loop .w + rowWidth)
+    (d .last .1 .0) (d .last .1 .1 .0) (d .last .1 .1 .1 .0) (c .put-answer .last .1 .0) blank 0 (d .result .session) (h .before .loop .w + rowWidth)
     (t .before .before .read-on .result .read))
+unfolding rowOf
 turned c =
     let t = row-written c in
     let h = head (t .before) in
@@ -126,7 +120,7 @@ turned c =
     let q = t .if1 .taken in
     one-line _ _ _ _ _ _ _ _ _ _ _ _ (l .inv) m big _ _ (more t) (line-within _ _ _ _ _ _ _ _ _ _ _ _ (l .inv) m big _ e q)
     (line-run _ _ _ _ _ _ _ _ _ _ _ _ (l .inv) m big _ e q)
-    _ _ _ _ _ _ (c .before .before .before .before .before .before .answer-line .ensures) (c .before .before .before .text .ensures) (c .put-row .ensures)
+    _ _ _ _ _ _ (c .before .before .before .answer-line .ensures) refl (c .put-answer .ensures)
 
 -- ---- the lines that stand whole after it
 
@@ -170,12 +164,16 @@ loop-less-2 c = omega (arith, none c .0, head (c .before) .loop-test .taken)
 loop-again-2 : tie.Need-loop-again-2 Inv-loop μ-loop
 loop-again-2 c = none c .1
 
+all-taken-requires : tie.Need-all-taken-requires Inv-loop μ-loop
+all-taken-requires c κs = search needs
+
 same-length : tie.Need-same-length Inv-loop μ-loop
 same-length c = search needs
 
 returns : tie.Need-returns Inv-loop μ-loop
 returns c =
-    let l = c .before .before .loop in (
+    let l = c .before .before .loop in
+    rw (c .all-taken .ensures) (
       refl,
       rw (c .before .before .before .session-of .ensures) at
           (all-read _ _ _ _ _ _ _ _ _ _ _ _ (l .inv) (c .before .loop-test .left) (c .before .before .before .before .before .before .before .before .pre .1)),
@@ -193,14 +191,13 @@ feed-all-spec =
     array-share-prefix-line
     slice-aggregate-answer-line
     answer-line-requires
-    text-requires
-    slice-aggregate-put-row
-    put-row-requires
+    put-answer-requires
     add-whole-lines
     whole-lines-requires
     loop-less
     loop-again
     loop-less-2
     loop-again-2
+    all-taken-requires
     same-length
     returns)

@@ -1,14 +1,12 @@
 use borrow.Author.Needs.{needs}
 use Rattle.call_list.proofs.Feeding.{long-no, room-no, room-yes, not-finished, none-finished, line-finished}
 use Rattle.call_list.specs.declared.Session.{Session}
-use Rattle.call_list.specs.Answer.{rowOf}
 use Rattle.call_list.specs.Feed.{kept, rowWidth}
 use lib.Seq.{length-take-le}
 use lib.ListN.{length}
 use native.Mathlib.Omega.{arith}
 use Prim.Native.Nat.{_-_, _/_, _≤_, _<_}
-use mathlib.Core.Path.{_≡_, sym, ap, _∙_}
-use Rattle.call_list.proofs.Laying.{length-text}
+use mathlib.Core.Path.{_≡_, sym, ap}
 use Rattle.call_list.proofs.finish.Statement.{statement}
 use Rattle.call_list.proofs.finish.Tie as tie
 
@@ -60,31 +58,27 @@ slice-aggregate-answer-line c =
 answer-line-requires : tie.Need-answer-line-requires
 answer-line-requires c κs = rw (c .before .before .before .before .session-of .ensures)
 
-text-requires : tie.Need-text-requires
-text-requires c κs = search needs
+put-answer-requires : tie.Need-put-answer-requires
+put-answer-requires c κs = search needs
 
-slice-aggregate-put-row : tie.Need-slice-aggregate-put-row
-slice-aggregate-put-row c = sym (ap length (c .before .text .ensures) ∙ length-text _)
-
-put-row-requires : tie.Need-put-row-requires
-put-row-requires c κs = (ap length (c .before .before .text .ensures) ∙ length-text _, search needs)
+all-taken-requires : tie.Need-all-taken-requires
+all-taken-requires c κs = search needs
 
 same-length : tie.Need-same-length
 same-length c = search needs
 
 returns-4 : tie.Need-returns-4
-unfolding rowOf
 returns-4 c =
-    let d = c .before .before .before .before .before .before .before .before .before .before in
+    let d = c .before .before .before .before .before .before .before in
     let i = d .before .before .before .before .before .before .before in
     let a = i .before .before .before .before .before .args in
     let s = d .before .before .before .before .before .session-of in
     let r : 1 ≤ length (a .out .now) / rowWidth = omega (arith, i .before .if2 .left) in
-    line-finished (a .state) (a .times .now) (a .sizes .now) (a .flags .now) (a .out .now) (s .result) (d .answer-line .result) _ _ _ _
+    rw (c .all-taken .ensures)
+    (line-finished (a .state) (a .times .now) (a .sizes .now) (a .flags .now) (a .out .now) (s .result) (d .answer-line .result) _ _ _ _
     (room-yes (a .state .len) 1 (length (a .out .now)) (i .before .before .if1 .left) r) (i .if3 .left)
     (ap (λ (x : Session). x .controller) (s .ensures)) (ap (λ (x : Session). x .queued) (s .ensures))
-    (d .answer-line .ensures)
-    (rw (← c .before .before .before .before .before .before .before .text .ensures) (c .before .before .before .before .put-row .ensures))
+    (d .answer-line .ensures) (c .before .before .before .before .put-answer .ensures))
 
 pub finish-spec : {M : Type 1} → statement M
 finish-spec =
@@ -99,8 +93,7 @@ finish-spec =
     array-share-prefix-line
     slice-aggregate-answer-line
     answer-line-requires
-    text-requires
-    slice-aggregate-put-row
-    put-row-requires
+    put-answer-requires
+    all-taken-requires
     same-length
     returns-4)

@@ -3,6 +3,7 @@ use Rattle.call_line.proofs.RoundTrip.{length-column}
 use lib.Seq.{take-suc, take-all, length-take-le}
 use native.Mathlib.Nat.{add-zero}
 use native.Mathlib.Numerals.{add-one}
+use Rattle.call_list.specs.Answer.{textWidth}
 use Rattle.call_list.specs.Pieces.{laid}
 use Rattle.call_list.proofs.Laying.{byte-laid, laid-twice}
 use Rattle.call_line.specs.Column.{column}
@@ -16,10 +17,10 @@ use Rattle.call_list.proofs.put_row.Tie as tie
 
 abbrev Inv-loop : tie.InvT-loop
 Inv-loop refusal text out₀ w k₀ out k =
-    (k ≤ 45) × (length text ≡ 45) × (length out ≡ length out₀) × (laid (w + 2) (take k text) out₀ ≡ out)
+    (k ≤ textWidth) × (length text ≡ textWidth) × (length out ≡ length out₀) × (laid (w + 2) (take k text) out₀ ≡ out)
 
 abbrev μ-loop : tie.MeasureT-loop
-μ-loop refusal text out₀ w k₀ out k = 45 - k
+μ-loop refusal text out₀ w k₀ out k = textWidth - k
 
 add-put-column : tie.Need-add-put-column Inv-loop μ-loop
 add-put-column c = search needs

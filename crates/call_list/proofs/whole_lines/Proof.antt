@@ -4,18 +4,17 @@ use mathlib.Core.Path.{_≡_, refl, sym, ap, _∙_}
 use mathlib.Core.Logic.{⊎-elim}
 use native.Mathlib.Omega.{arith}
 use borrow.Author.Needs.{needs}
-use borrow.Author.Tests.{not-false}
 use lib.ListN.{length, take, drop}
 use Rattle.call_line.specs.Line.{lineOf}
 use Rattle.call_line.specs.declared.Call.{Call}
 use Rattle.call_line.specs.declared.Line.the-variants.{Taken}
 use Rattle.call_list.specs.declared.Session.{Session}
-use Rattle.call_list.specs.Answer.{textOf}
+use Rattle.call_list.specs.Answer.{textWidth, textOf}
 use Rattle.call_list.specs.Feed.{width, rowWidth, blank, runs}
 use Rattle.call_list.specs.Pieces.{here, At}
 use Rattle.call_list.proofs.Laying.{length-text}
 use Rattle.call_list.proofs.Feeding.{stands-within, row-fits, line-stands, one-line}
-use Rattle.call_list.proofs.Turning.{Leaves, call-loudly, call-quietly, same-is}
+use Rattle.call_list.proofs.Turning.{Leaves, call-loudly, call-quietly}
 use Rattle.call_list.proofs.whole_lines.Statement.{statement}
 use Rattle.call_list.proofs.whole_lines.Tie as tie
 
@@ -93,11 +92,11 @@ control-call-requires c κs = search needs
 read-requires : tie.Need-read-requires Inv-loop μ-loop
 read-requires c κs = search needs
 
-same-requires : tie.Need-same-requires Inv-loop μ-loop
-same-requires c κs = search needs
-
-text-requires-2 : tie.Need-text-requires-2 Inv-loop μ-loop
-text-requires-2 c κs = search needs
+renewed-requires : tie.Need-renewed-requires Inv-loop μ-loop
+renewed-requires c κs =
+    head
+    (c .before .before .before .before .before .before .before .before .before .before .before .before .before .before .before .before)
+    .loop .inv .2
 
 -- ---- what holds at its end
 
@@ -107,11 +106,9 @@ fits j = row-fits _ _ _ _ _ _ _ _ _ _ _ _ (head (stood j) .loop .inv .3) (omega 
 text-told : (j : Turn) → j .if2 .row ≡ textOf (j .if2 .reading)
 text-told j =
     let t = head (stood j) .loop .inv .2 in
-    ⊎-elim (λ a. a .12 ∙ a .9 .ensures ∙ sym (ap textOf (a .11)))
-    (⊎-elim (λ b. b .11 ∙ t ∙ sym (ap textOf (b .10))) (λ c. c .3 ∙ t ∙ sym (ap textOf (c .2))))
-    (j .if2 .came)
+    ⊎-elim (λ a. a .10 ∙ a .7 .ensures ∙ sym (ap textOf (a .9))) (λ b. b .3 ∙ t ∙ sym (ap textOf (b .2))) (j .if2 .came)
 
-text-long : (j : Turn) → length (j .if2 .row) ≡ 45
+text-long : (j : Turn) → length (j .if2 .row) ≡ textWidth
 text-long j = ap length (text-told j) ∙ length-text _
 
 -- the session at its start
@@ -129,11 +126,8 @@ leaves :
     (j .if2 .controller) (j .if2 .reading) (j .if2 .refusal))
 leaves j =
     let h = j .before .quiet-call .ensures in
-    ⊎-elim (λ a. call-loudly (session j) _ _ _ (call j) _ _ _ _ h _ _ _ (a .0 .taken) (a .4 .result) (a .4 .ensures) (a .10) (a .11 ∙ a .6 .ensures) (a .13))
-    (⊎-elim
-    (λ b. call-loudly (session j) _ _ _ (call j) _ _ _ _ h _ _ _ (b .0 .taken) (b .4 .result) (b .4 .ensures) (b .9)
-    (b .10 ∙ same-is _ _ (sym (b .7 .ensures) ∙ not-false _ (b .8 .left)) ∙ b .6 .ensures) (b .12))
-    (λ c. call-quietly (session j) _ _ _ (call j) _ _ _ _ h _ _ _ (c .0 .left) (head (stood j) .loop .inv .3 .reading) (c .1) (c .2) (c .4)))
+    ⊎-elim (λ a. call-loudly (session j) _ _ _ (call j) _ _ _ _ h _ _ _ (a .0 .taken) (a .4 .result) (a .4 .ensures) (a .8) (a .9 ∙ a .6 .ensures) (a .11))
+    (λ b. call-quietly (session j) _ _ _ (call j) _ _ _ _ h _ _ _ (b .0 .left) (head (stood j) .loop .inv .3 .reading) (b .1) (b .2) (b .4))
     (j .if2 .came)
 
 slice-aggregate-put-row : tie.Need-slice-aggregate-put-row Inv-loop μ-loop
@@ -182,19 +176,16 @@ loop-again c =
           _ _ _ _ _ _ (leaves j) (text-told j) (c .before .before .put-row .ensures),
     )
 
+progress-of-requires : tie.Need-progress-of-requires Inv-loop μ-loop
+progress-of-requires c κs = search needs
+
 same-length : tie.Need-same-length Inv-loop μ-loop
 same-length c = search needs
 
 returns : tie.Need-returns Inv-loop μ-loop
 returns c =
-    let l = c .before .before .loop in (l .inv .0, l .inv .1, l .inv .3)
-
-same-length-2 : tie.Need-same-length-2 Inv-loop μ-loop
-same-length-2 c = search needs
-
-returns-2 : tie.Need-returns-2 Inv-loop μ-loop
-returns-2 c =
-    let l = c .before .before .before .before .before .loop in (l .inv .0, l .inv .1, l .inv .3)
+    let l = c .before .before .before .loop in
+    rw (c .progress-of .ensures) (l .inv .0, l .inv .1, l .inv .3)
 
 pub whole-lines-spec : {M : Type 1} → statement M
 whole-lines-spec =
@@ -214,15 +205,13 @@ whole-lines-spec =
     quiet-call-requires
     control-call-requires
     read-requires
-    same-requires
-    text-requires-2
+    renewed-requires
     slice-aggregate-put-row
     put-row-requires
     add-w
     add-i
     loop-less
     loop-again
+    progress-of-requires
     same-length
-    returns
-    same-length-2
-    returns-2)
+    returns)
