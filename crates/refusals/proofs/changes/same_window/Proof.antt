@@ -3,8 +3,8 @@ use Prim.Native.Nat.{_≤_, _-_}
 use mathlib.Core.Path.{_≡_}
 use borrow.Author.Needs.{needs}
 use lib.ListN.{length, length-map}
-use Rattle.refusals.proofs.same_window.Statement.{statement}
-use Rattle.refusals.proofs.same_window.Tie as tie
+use Rattle.refusals.proofs.changes.same_window.Statement.{statement}
+use Rattle.refusals.proofs.changes.same_window.Tie as tie
 
 abbrev Inv-loop : tie.InvT-loop
 Inv-loop window other-window slot₀ slot = (slot ≤ 15) × (length window ≡ 15) × (length other-window ≡ 15)
