@@ -5,7 +5,6 @@
 // The last line counts the cases, and those that got another code or did not hand the controller
 // back.
 mod calls;
-mod changes;
 mod controllers;
 mod limits;
 mod order;

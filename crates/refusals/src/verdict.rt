@@ -1,11 +1,9 @@
 // What a case came to, printed and counted.
-use crate::changes::Changes;
-use crate::changes::compared;
-use crate::changes::is_same;
 use crate::print::field;
 use crate::print::print_bits;
 use crate::print::print_state;
 use crate::print::text;
+use comparison::Changes;
 use loss_controller::ControllerAnswer;
 use loss_controller::LossController;
 
@@ -24,13 +22,13 @@ impl Tally {
     ) -> Tally {
         let refusal = answer.refusal;
         let controller = answer.controller;
-        let changes = compared(start, controller);
+        let changes = comparison::compared(start, controller);
         text(name);
         field(b": ", refusal as u64);
         field(b", expected ", expected as u64);
         print_changes(changes);
         print_held(refusal, controller);
-        self.counted(refusal == expected, refusal == 0 || is_same(changes))
+        self.counted(refusal == expected, refusal == 0 || changes.is_none())
     }
 
     fn counted(self, is_expected: bool, is_handed_back: bool) -> Tally {
@@ -65,7 +63,7 @@ fn print_held(refusal: u8, controller: LossController) {
 }
 
 fn print_changes(changes: Changes) {
-    if is_same(changes) {
+    if changes.is_none() {
         text(b", same");
         return;
     }
