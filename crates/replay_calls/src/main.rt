@@ -1,7 +1,6 @@
 // Replays stored calls of the controller. A line of standard input is a call, in hexadecimal, and is
 // answered by its refusal and what the controller reads after it. oracle/README.md has the fields in
 // their order, and says how the stored answers were made.
-use bandwidth::Bitrate;
 use bandwidth::OptionBitrate;
 use libc::STDIN_FILENO;
 use libc::STDOUT_FILENO;
@@ -62,10 +61,6 @@ fn read_call() -> Call {
     }
 }
 
-fn rate(bits: u64) -> Bitrate {
-    Bitrate::from_f64(float::from_bits(bits))
-}
-
 // ---- calls
 
 fn answered(
@@ -118,8 +113,14 @@ fn set(before: Answer, call: Call) -> Answer {
     let controller = before.controller;
     let kind = call.kind;
     match kind {
-        1 => after(before, controller.set_bandwidth_estimate(rate(call.a))),
-        2 => after(before, controller.set_acknowledged_bitrate(rate(call.a))),
+        1 => after(
+            before,
+            controller.set_bandwidth_estimate(stored_fields::rate(call.a)),
+        ),
+        2 => after(
+            before,
+            controller.set_acknowledged_bitrate(stored_fields::rate(call.a)),
+        ),
         3 => set_alr(before, call),
         4 => set_capacity(before, call),
         _ => refused(before, 0),
@@ -148,7 +149,7 @@ fn set_capacity(before: Answer, call: Call) -> Answer {
             controller.set_link_capacity_estimate(OptionBitrate::None),
         ),
         1 => {
-            let capacity = OptionBitrate::Some(rate(call.a));
+            let capacity = OptionBitrate::Some(stored_fields::rate(call.a));
             after(before, controller.set_link_capacity_estimate(capacity))
         }
         _ => refused(before, 8),
@@ -225,7 +226,7 @@ fn report(before: Answer, call: Call, times: &[u64], sizes: &[PacketSize], flags
         return refused(before, 12);
     }
     let controller = before.controller;
-    let delay = rate(call.a);
+    let delay = stored_fields::rate(call.a);
     let answer = controller.update_bandwidth_estimate(&times[..n], &sizes[..n], &flags[..n], delay);
     let controller = answer.controller;
     Answer {
@@ -250,22 +251,10 @@ fn print_answer(answer: Answer) {
     print(answer.refusal as u64, 1);
     print(state.number() as u64, 1);
     let rate = result.bandwidth_estimate;
-    print_rate(rate);
+    print(stored_fields::option_case(rate), 1);
+    print(stored_fields::option_bits(rate), 16);
     print(float::to_bits(controller.inherent_loss()), 16);
     print(float::to_bits(ratio.value), 16);
     io::print_hex(STDOUT_FILENO, controller.num_observations(), 8);
     io::write_all(STDOUT_FILENO, b"\n");
-}
-
-fn print_rate(rate: OptionBitrate) {
-    match rate {
-        OptionBitrate::Some(rate) => {
-            print(1, 1);
-            print(float::to_bits(rate.as_f64()), 16);
-        }
-        OptionBitrate::None => {
-            print(0, 1);
-            print(0, 16);
-        }
-    }
 }
