@@ -509,15 +509,14 @@ fn same(a: Reading, b: Reading) -> bool
     a.published == b.published
 }
 
-// The text of a reading, where the one before it had the text `row`: it is seldom another.
-fn renewed(row: [u8; TEXT], before: Reading, reading: Reading) -> [u8; TEXT]
-    requires { ⌜ row ≡ Answers.textOf before ⌝ }
-    ensures { λ r. ⌜ r ≡ Answers.textOf reading ⌝ }
+// The text of a reading in place of the one before it: it is seldom another.
+fn renew(row: &mut [u8; TEXT], before: Reading, reading: Reading)
+    requires { ⌜ now row ≡ Answers.textOf before ⌝ }
+    ensures { λ _. ⌜ now (row .exit) ≡ Answers.textOf reading ⌝ }
 {
-    if same(before, reading) {
-        return row;
+    if !same(before, reading) {
+        *row = text(reading);
     }
-    text(reading)
 }
 
 fn progress_of(
@@ -580,7 +579,7 @@ fn whole_lines(
             controller = answer.controller;
             refusal = answer.refusal;
             let now = read(controller);
-            row = renewed(row, reading, now);
+            renew(&mut row, reading, now);
             reading = now;
         }
         queued = quiet.queued;

@@ -92,10 +92,10 @@ control-call-requires c κs = search needs
 read-requires : tie.Need-read-requires Inv-loop μ-loop
 read-requires c κs = search needs
 
-renewed-requires : tie.Need-renewed-requires Inv-loop μ-loop
-renewed-requires c κs =
+renew-requires : tie.Need-renew-requires Inv-loop μ-loop
+renew-requires c κs =
     head
-    (c .before .before .before .before .before .before .before .before .before .before .before .before .before .before .before .before)
+    (c .before .before .before .before .before .before .before .before .before .before .before .before .before .before .before .before .before)
     .loop .inv .2
 
 -- ---- what holds at its end
@@ -106,7 +106,7 @@ fits j = row-fits _ _ _ _ _ _ _ _ _ _ _ _ (head (stood j) .loop .inv .3) (omega 
 text-told : (j : Turn) → j .if2 .row ≡ textOf (j .if2 .reading)
 text-told j =
     let t = head (stood j) .loop .inv .2 in
-    ⊎-elim (λ a. a .10 ∙ a .7 .ensures ∙ sym (ap textOf (a .9))) (λ b. b .3 ∙ t ∙ sym (ap textOf (b .2))) (j .if2 .came)
+    ⊎-elim (λ a. a .11 ∙ a .8 .ensures ∙ sym (ap textOf (a .10))) (λ b. b .3 ∙ t ∙ sym (ap textOf (b .2))) (j .if2 .came)
 
 text-long : (j : Turn) → length (j .if2 .row) ≡ textWidth
 text-long j = ap length (text-told j) ∙ length-text _
@@ -126,7 +126,7 @@ leaves :
     (j .if2 .controller) (j .if2 .reading) (j .if2 .refusal))
 leaves j =
     let h = j .before .quiet-call .ensures in
-    ⊎-elim (λ a. call-loudly (session j) _ _ _ (call j) _ _ _ _ h _ _ _ (a .0 .taken) (a .4 .result) (a .4 .ensures) (a .8) (a .9 ∙ a .6 .ensures) (a .11))
+    ⊎-elim (λ a. call-loudly (session j) _ _ _ (call j) _ _ _ _ h _ _ _ (a .0 .taken) (a .4 .result) (a .4 .ensures) (a .9) (a .10 ∙ a .6 .ensures) (a .12))
     (λ b. call-quietly (session j) _ _ _ (call j) _ _ _ _ h _ _ _ (b .0 .left) (head (stood j) .loop .inv .3 .reading) (b .1) (b .2) (b .4))
     (j .if2 .came)
 
@@ -205,7 +205,7 @@ whole-lines-spec =
     quiet-call-requires
     control-call-requires
     read-requires
-    renewed-requires
+    renew-requires
     slice-aggregate-put-row
     put-row-requires
     add-w
