@@ -787,12 +787,7 @@ impl LossController {
             instant_limit = self.config.instant_upper_bound_bandwidth_balance
                 / (average_reported_loss_ratio - self.config.instant_upper_bound_loss_offset);
 
-            if average_reported_loss_ratio > self.config.high_loss_rate_threshold {
-                let limit = self.config.bandwidth_cap_at_high_loss_rate
-                    - self.config.slope_of_bwe_high_loss_function * average_reported_loss_ratio;
-
-                instant_limit = limit.max(self.min_bitrate);
-            }
+            // EDIT 11: the branch for a ratio above 1.0 is dropped (request Q-6).
         }
 
         instant_limit

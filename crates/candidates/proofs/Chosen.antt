@@ -1,11 +1,14 @@
--- The choice among the candidates is not refused, and the rate of what it chooses is not negative. Assumes nothing.
+-- The choice among the candidates is not refused, and the rate of what it chooses is not negative. And where any choice is not refused, no candidate's
+-- objective was. Assumes nothing.
+use Prim.Native.Nat.{ℕ}
 use mathlib.Core.Path.{_≡_, refl}
 use mathlib.Core.List.{List}
 use lib.Dec.{T}
+use lib.ListN.{take}
 use lib.Ieee.{Float, lt}
 use lib.Ieee.Scale.{finite}
-use Rattle.float.proofs.Each.{Each, each-take, each-fold}
-use Rattle.float.proofs.Refusal.{either, checked}
+use Rattle.float.proofs.Each.{Each, each-take, each-fold, each-of-fold}
+use Rattle.float.proofs.Refusal.{either, checked, passed}
 use Rattle.bandwidth.proofs.NotNegativeRate.{HoldsRate}
 use Rattle.likelihood.specs.Newton.{newton}
 use Rattle.likelihood.specs.Objective.{objective}
@@ -17,6 +20,8 @@ use Rattle.candidates.specs.Candidate as Candidate
 use Rattle.candidates.specs.Choice as Choice
 use Rattle.candidates.specs.declared.Best.{Best}
 use Rattle.candidates.specs.declared.Bounds.{Bounds}
+use Rattle.candidates.specs.declared.Candidates.{Candidates}
+use Rattle.candidates.specs.declared.ChoiceAnswer.{ChoiceAnswer}
 use Rattle.candidates.proofs.Offered.{Fair, FairWhereFinite, candidates-fair}
 
 -- the best so far, none refused
@@ -48,3 +53,24 @@ chosen current b rows ratio n f d a u sent =
     let fair = each-take used (candidates-fair current b n f d a u) in
     let g = each-fold Good (Choice.better rows ratio) (better-good rows ratio sent) (Choice.start current) (record { taken = refl; fair = n }) fair in
     rw (g .taken) (refl, g .fair)
+
+-- where a choice, of whatever candidates, is not refused, no candidate's objective was
+module _ (rows : List Row) (ratio : Float) where
+  abbrev ObjectiveTaken : ChannelParameters → Type 0
+  ObjectiveTaken p = objective rows ratio (newton rows p) .refusal ≡ 0
+
+  abbrev code : Best → ℕ
+  code b = b .refusal
+
+  better-objective : (b : Best) (p : ChannelParameters) → code (Choice.better rows ratio b p) ≡ 0 → (code b ≡ 0) × ObjectiveTaken p
+  unfolding Choice.better Choice.judged
+  better-objective b p t =
+      let judged = passed code (b .refusal) refl t in
+      (judged .0, passed code (objective rows ratio (newton rows p) .refusal) refl (judged .1) .0)
+
+  pub choice-objectives : (current : ChannelParameters) (c : Candidates) → Choice.choice current c rows ratio .refusal ≡ 0
+      → Each (λ (p : ChannelParameters). objective rows ratio (newton rows p) .refusal ≡ 0) (take (Choice.used (c .count)) (c .places))
+  unfolding Choice.choice Choice.answered
+  choice-objectives current c t =
+      let best = passed (λ (a : ChoiceAnswer). a .refusal) _ refl t .0 in
+      each-of-fold ObjectiveTaken (λ (b : Best). code b ≡ 0) (Choice.better rows ratio) better-objective (Choice.start current) _ best .1

@@ -2,7 +2,7 @@
 use Prim.Native.Nat.{ℕ}
 use mathlib.Core.Bool.{false}
 use lib.Ieee.{Float, inf}
-use Rattle.float.specs.Rounded.{bits, one, thousand}
+use Rattle.float.specs.Rounded.{bits, one}
 use Rattle.bandwidth.specs.declared.Bitrate.{Bitrate}
 use Rattle.bandwidth.specs.Rate.{rate}
 use Rattle.duration.specs.declared.Duration.{Duration}
@@ -23,21 +23,6 @@ abbrev pub «instant_upper_bound_loss_offset» : Float
 -- 100,000 bit/s
 abbrev pub «instant_upper_bound_bandwidth_balance» : Bitrate
 «instant_upper_bound_bandwidth_balance» = rate (bits 0x40F86A0000000000)
-
-abbrev pub «high_loss_rate_threshold» : Float
-«high_loss_rate_threshold» = one
-
--- 1,000,000 bit/s
-abbrev pub «slope_of_bwe_high_loss_function» : Bitrate
-«slope_of_bwe_high_loss_function» = rate (bits 0x412E848000000000)
-
--- 500,000 bit/s
-abbrev pub «bandwidth_cap_at_high_loss_rate» : Bitrate
-«bandwidth_cap_at_high_loss_rate» = rate (bits 0x411E848000000000)
-
--- 1,000 bit/s
-abbrev pub «min_bitrate» : Bitrate
-«min_bitrate» = rate thousand
 
 -- the Rust's `max_bitrate` is Bitrate::INFINITY: no rate is above it
 abbrev pub «max_bitrate» : Bitrate

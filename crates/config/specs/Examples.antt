@@ -11,8 +11,8 @@ use Rattle.config.specs.Config as Config
 tenThousandths : ℕ → Float
 tenThousandths n = round binary64 false n 10000
 
--- 0.05, 1.0
-ceiling : Config.«instant_upper_bound_loss_offset» ∷ Config.«high_loss_rate_threshold» ∷ [] ≡ map tenThousandths (500 ∷ 10000 ∷ [])
+-- 0.05
+ceiling : Config.«instant_upper_bound_loss_offset» ≡ tenThousandths 500
 unfolding tenThousandths round ofBits
 ceiling = refl
 
@@ -49,9 +49,9 @@ increase = refl
 -- the rates, in bit/s; the maximum is infinite
 rates :
     map (λ (r : Bitrate). r .bps)
-    (Config.«instant_upper_bound_bandwidth_balance» ∷ Config.«slope_of_bwe_high_loss_function» ∷ Config.«bandwidth_cap_at_high_loss_rate»
-    ∷ Config.«min_bitrate» ∷ Config.«inherent_loss_upper_bound_bandwidth_balance» ∷ Config.«congestion_controller_min_bitrate» ∷ []) ≡
-    map (λ n. round binary64 false n 1) (100000 ∷ 1000000 ∷ 500000 ∷ 1000 ∷ 100000 ∷ 5000 ∷ [])
+    (Config.«instant_upper_bound_bandwidth_balance» ∷ Config.«inherent_loss_upper_bound_bandwidth_balance»
+    ∷ Config.«congestion_controller_min_bitrate» ∷ []) ≡
+    map (λ n. round binary64 false n 1) (100000 ∷ 100000 ∷ 5000 ∷ [])
     × Config.«max_bitrate» .bps ≡ inf false
 unfolding round ofBits
 rates = (refl, refl)

@@ -3,7 +3,8 @@
 // `not_increase_if_inherent_loss_less_than_average_loss`, `append_acknowledged_rate_candidate`,
 // `append_delay_based_estimate_candidate`, `use_byte_loss_ratio`; fixed off:
 // `trendline_integration_enabled`. Both temporal weight factors are 0.9: crate `logarithm` has the
-// table of weights. `newton_iterations` is 1. The maximum rate is infinite.
+// table of weights. `newton_iterations` is 1. The maximum rate is infinite. The Rust's branch for a
+// loss ratio above 1.0, which no list reaches, is left out with its three settings and `min_bitrate`.
 use bandwidth::Bitrate;
 use duration::Duration;
 
@@ -18,14 +19,6 @@ pub const OBSERVATION_DURATION_LOWER_BOUND: Duration = Duration { nanos: 250_000
 pub const INSTANT_UPPER_BOUND_LOSS_OFFSET: f64 = 0.05;
 
 pub const INSTANT_UPPER_BOUND_BANDWIDTH_BALANCE: Bitrate = Bitrate { bps: 100000.0 };
-
-pub const HIGH_LOSS_RATE_THRESHOLD: f64 = 1.0;
-
-pub const SLOPE_OF_BWE_HIGH_LOSS_FUNCTION: Bitrate = Bitrate { bps: 1000000.0 };
-
-pub const BANDWIDTH_CAP_AT_HIGH_LOSS_RATE: Bitrate = Bitrate { bps: 500000.0 };
-
-pub const MIN_BITRATE: Bitrate = Bitrate { bps: 1000.0 };
 
 // ---- inherent loss
 

@@ -11,6 +11,11 @@ pub data Each {A : Type 0} (P : A → Type 0) : List A → Type 0 where
   more : {x : A} {l : List A} → P x → Each P l → Each P (x ∷ l)
 
 module _ {A : Type 0} {P : A → Type 0} where
+  -- of what follows from it
+  pub each-weaken : {Q : A → Type 0} → ((x : A) → P x → Q x) → {l : List A} → Each P l → Each Q l
+  each-weaken f none = none
+  each-weaken f (more {x} h p) = more (f x h) (each-weaken f p)
+
   -- of two lists joined
   pub each-append : {l r : List A} → Each P l → Each P r → Each P (l ++ r)
   each-append none q = q
@@ -40,6 +45,15 @@ module _ {A : Type 0} {P : A → Type 0} where
       → Q (foldl f b l)
   each-fold Q f step b q none = q
   each-fold Q f step b q (more {x} h p) = each-fold Q f step (f b x) (step b x q h) p
+
+-- backwards: if Q after a step gives Q before it and P of its element, Q of the fold gives P of each element
+pub each-of-fold : {A B : Type 0} (P : A → Type 0) (Q : B → Type 0) (f : B → A → B) → ((b : B) (x : A) → Q (f b x) → Q b × P x)
+    → (b : B) (l : List A) → Q (foldl f b l) → Q b × Each P l
+each-of-fold P Q f step b [] q = (q, none)
+each-of-fold P Q f step b (x ∷ l) q =
+    let rest = each-of-fold P Q f step (f b x) l q in
+    let first = step b x (rest .0) in
+    (first .0, more (first .1) (rest .1))
 
 -- of an element n times
 pub each-replicate : {A : Type 0} (P : A → Type 0) (n : ℕ) (x : A) → P x → Each P (replicate n x)

@@ -1,7 +1,7 @@
 -- An answer is chosen by a test, with refusal 0 where the test holds and another number where not: the refusal tells the test.
 -- Assumes nothing.
 use Prim.Native.Nat.{ℕ, _<_}
-use mathlib.Core.Path.{_≡_, refl, sym}
+use mathlib.Core.Path.{_≡_, refl, sym, _∙_}
 use mathlib.Core.Bool.{Bool, true, false, cond, true≢false}
 use native.Mathlib.Omega.{arith}
 use borrow.Author.Tests.{eqb-true, eqb-false}
@@ -35,3 +35,9 @@ either P b x y p q = tested P b (λ e. p) (λ e. q)
 -- and where it is the test for a refusal
 pub checked : {A : Type 0} (P : A → Type 0) (refusal : ℕ) {x y : A} → (refusal ≡ 0 → P x) → ((refusal ≡ 0 → ⊥) → P y) → P (cond (eqb refusal 0) x y)
 checked P refusal f g = tested P (eqb refusal 0) (λ e. f (eqb-true refusal 0 e)) (λ e. g (eqb-false refusal 0 e))
+
+-- where the other answer bears the tested refusal, an answer that is not refused passed the test
+pub passed : {A : Type 0} (code : A → ℕ) (refusal : ℕ) {x y : A} → code y ≡ refusal → code (cond (eqb refusal 0) x y) ≡ 0
+    → (refusal ≡ 0) × (code x ≡ 0)
+passed code refusal {x} same =
+    checked (λ a. code a ≡ 0 → (refusal ≡ 0) × (code x ≡ 0)) refusal (λ z t. (z, t)) (λ n t. absurd (n (sym same ∙ t)))

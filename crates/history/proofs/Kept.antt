@@ -8,7 +8,7 @@ use native.Mathlib.Nat.{min-le-left, min-le-right}
 use native.Mathlib.Omega.{arith}
 use lib.ListN.{length, length-take}
 use Rattle.float.proofs.Each.{Each, none, more, each-take}
-use Rattle.rounding.proofs.Sums.{Sound}
+use Rattle.rounding.specs.Exact.{Sound}
 use Rattle.history.specs.History.{Pair, History, nothing, completed, withRunning}
 use Rattle.history.specs.WeighedPairs.{aged}
 

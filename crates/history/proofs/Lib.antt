@@ -11,6 +11,7 @@ pub mod Observed
 pub mod Reached
 pub mod Refusals
 pub mod Unrefused
+pub mod Unreached
 pub mod EveryRate
 mod Tested
 mod Sample

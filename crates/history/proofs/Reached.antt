@@ -46,7 +46,7 @@ use Rattle.loss_controller.specs.Setters.{rateOf}
 use Rattle.history.specs.History.{History, fresh}
 use Rattle.history.specs.Run.{capacityOf}
 use Rattle.history.proofs.Tied.{Tied, fresh-tied}
-use Rattle.history.proofs.Weighed.{tied-reported, tied-readable, tied-not-above-one}
+use Rattle.history.proofs.Weighed.{tied-reported, tied-readable}
 use Rattle.history.proofs.Observed.{Counted, Parted, cleared-counted, added-counted}
 
 -- ---- the rates that calls hand over
@@ -151,7 +151,7 @@ unfolding Ratio.validOrMax Ratio.instantUpperBound
 ceiling-not-negative o h t =
     let limit = Ratio.instantUpperBound o .rate in
     rw (t .ceiling)
-    (either NotNegativeRate (finite (limit .bps)) limit _ (rw (tied-reported o h t) (limit-not-negative _ (tied-not-above-one o h t))) inf-not-negative)
+    (either NotNegativeRate (finite (limit .bps)) limit _ (rw (tied-reported o h t) (limit-not-negative _)) inf-not-negative)
 
 capacity-holds : (on : Bool) (link : OptionBitrate) → TakenOption link → Holds (Bound.capacity on link .bps)
 unfolding Bound.capacity Bound.atMost Rate.smaller

@@ -1,12 +1,12 @@
--- The claims, as tests, on the lists that the must-fail edits of this crate name: the conditions are met there, and each edit makes its test false on
--- its list (tools/refute.py). No proof cites it. Assumes nothing.
+-- The claims, as tests, on short lists: those that the must-fail edits of this crate name, where the conditions are met and each edit makes its test
+-- false on its list (tools/refute.py), and one in which all bytes are lost. No proof cites it. Assumes nothing.
 use Prim.Native.Nat.{ℕ, zero, suc, _+_}
 use mathlib.Core.Path.{_≡_, refl}
 use mathlib.Core.Bool.{true, false}
 use mathlib.Core.List.{List, [], _∷_, _++_}
 use mathlib.Core.Option.{none, some}
 use Rattle.history.specs.Calls.{Call, estimate, alr, report, read}
-use Rattle.history.proofs.Tested.{outcome, untraced}
+use Rattle.history.proofs.Tested.{outcome, untraced, unreached}
 
 -- ---- the lists, of packets of 1,000 bytes. The estimate comes last, so that the steps after an observation are not computed
 
@@ -16,6 +16,10 @@ packet time lost = report (time ∷ []) (1000 ∷ []) (lost ∷ []) 0x7FF0000000
 -- refused for a delay estimate of -0.0
 refused : Call
 refused = report (7 ∷ []) (1000 ∷ []) (1 ∷ []) 0x8000000000000000
+
+-- 10^12 bytes at once, which no packet has, but a longer list reaches; and a packet
+beyond : List Call
+beyond = report (0 ∷ []) (1000000000000 ∷ []) (0 ∷ []) 0 ∷ packet 1 0 ∷ []
 
 -- 10^9 bit/s
 high : Call
@@ -55,9 +59,9 @@ oldest-of-sixteen : outcome (packet 0 1 ∷ packet 300000000 1 ∷ clean 15 3000
 unfolding outcome packet clean high
 oldest-of-sixteen = refl
 
--- 10^12 bytes at once, which no packet has, but a longer list reaches: they are taken
-at-10-12 : outcome (report (0 ∷ []) (1000000000000 ∷ []) (0 ∷ []) 0 ∷ packet 1 0 ∷ []) ≡ record { met = true; count = 0; lossy = false }
-unfolding outcome packet
+-- 10^12 bytes are taken, and the next packet is refused
+at-10-12 : outcome beyond ≡ record { met = true; count = 0; lossy = false }
+unfolding outcome packet beyond
 at-10-12 = refl
 
 -- a packet with both a late time and a wrong flag: 3
@@ -77,3 +81,15 @@ refused-delay = refl
 refused-start : untraced (packet 0 1 ∷ packet 300000000 1 ∷ high ∷ alr (some 4000000000000000001) ∷ alr none ∷ []) ≡ true
 unfolding untraced packet high
 refused-start = refl
+
+-- ---- what no list comes to
+
+-- all bytes lost: the ratio is 1
+all-lost : unreached (packet 0 1 ∷ packet 300000000 1 ∷ high ∷ []) ≡ true
+unfolding unreached packet high
+all-lost = refl
+
+-- a call that is refused with 10
+past-10-12 : unreached beyond ≡ true
+unfolding unreached packet beyond
+past-10-12 = refl

@@ -15,8 +15,7 @@ use lib.Ieee.{binary64, inFloat}
 use lib.ListN.{length, take, drop, set, replicate, length-reverse, length-replicate, take-append-drop, replicate-append-replicate}
 use lib.Seq.{take-length, drop-length, take-append-le, drop-append-le, length-take-le, take-at, drop-at, set-at, append-snoc}
 use Rattle.float.proofs.Each.{Each, more, each-perm}
-use Rattle.rounding.specs.Exact.{Measured}
-use Rattle.rounding.proofs.Sums.{Sound}
+use Rattle.rounding.specs.Exact.{Measured, Sound}
 use Rattle.observation.specs.Ratio as Ratio
 use Rattle.observation.specs.Window.{dummy}
 use Rattle.observation.specs.declared.Observation.{Observation}

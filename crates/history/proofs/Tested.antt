@@ -4,7 +4,7 @@ use Prim.Native.Nat.{ℕ, _+_, _*_}
 use mathlib.Core.Path.{_≡_, refl, ap, _∙_, subst}
 use mathlib.Core.Bool.{Bool, true, false, not, _&&_, _||_}
 use mathlib.Core.List.{List, [], _∷_, _++_, foldl-append}
-use borrow.Author.Tests.{eq-eqb, le-leb, ltb-true, leb-true, eqb-false}
+use borrow.Author.Tests.{eq-eqb, ne-eqb, le-leb, ltb-true, leb-true, eqb-false}
 use lib.Dec.{eqb, leb, ltb}
 use lib.Ieee.{Float, add, binary64, div, eq, inFloat, isNan, lt, mul, ofBits, ofInt, sub, toBits}
 use lib.Ieee.Bits.{is-true}
@@ -40,6 +40,7 @@ use Rattle.history.specs.WeighedPairs.{aged, weighedLost, weighedBytes, 
 use Rattle.history.specs.Run.{step, next, toldOf, leftOf, allTold, left, told}
 use Rattle.history.specs.Demand.{NearRatio, UnderLossCeiling, Demand, Demand3}
 use Rattle.history.specs.Refusals.{packetsRefusal, reportRefusal, refusalOf, Refusals2}
+use Rattle.history.specs.Unreached.{BoundedRatio, RatioAtMostOne, outsideDomain, Never6}
 use Rattle.history.specs.Unrefused.{isTaken, answersOf, withoutRefusals, NoneRefused, withoutRefused, Unrefused1}
 
 -- ---- laws on tests
@@ -189,6 +190,27 @@ traceless-true u c calls =
     (holds (subst (λ (rest : List ControllerAnswer). same answers rest ≡ true) (w .answers) (same-self answers))
     (holds (none-refused-true (answersOf c (withoutRefused c calls)) (w .none)) (eq-eqb _ _ (ap reading (w .leaves)))))
 
+-- ---- `RatioAtMostOne` and `Never6`
+
+bounded : FloatAnswer → Bool
+bounded ratio = let x = ratio .value in eqb (ratio .refusal) 0 && (plain x && leb (num x) (den x))
+
+bounded-true : (ratio : FloatAnswer) → BoundedRatio ratio → bounded ratio ≡ true
+unfolding bounded
+bounded-true ratio n =
+    holds (eq-eqb _ 0 (n .taken)) (holds (is-true (plain (ratio .value)) (n .atMostOne .plainly)) (le-leb _ _ (n .atMostOne .below)))
+
+never : LossController → List Call → Bool
+never c [] = true
+never c (call ∷ calls) = not (eqb (step c call .refusal) outsideDomain) && never (next c call) calls
+
+never-true : Never6 → (before calls : List Call) → never (left before) calls ≡ true
+unfolding never
+never-true n before [] = refl
+never-true n before (call ∷ calls) =
+    let leaves : left (before ++ (call ∷ [])) ≡ next (left before) call = foldl-append next initial before (call ∷ []) in
+    holds (ap not (ne-eqb _ outsideDomain (n before call))) (rw leaves at (never-true n (before ++ (call ∷ [])) calls))
+
 -- ---- on a list, with every definition that it computes by
 
 -- `Demand3` and `Refusals2`, and what of the list they speak of
@@ -223,3 +245,12 @@ untraced calls = traceless initial calls
 pub untraced-met : Unrefused1 → (calls : List Call) → untraced calls ≡ true
 unfolding untraced
 untraced-met u calls = traceless-true u initial calls
+
+-- `RatioAtMostOne` and `Never6`
+unfoldable pub unreached : List Call → Bool
+unfolding outcome bounded never
+unreached calls = bounded (averageReportedLossRatio (left calls)) && never initial calls
+
+pub unreached-met : RatioAtMostOne → Never6 → (calls : List Call) → unreached calls ≡ true
+unfolding unreached
+unreached-met r n calls = holds (bounded-true (averageReportedLossRatio (left calls)) (r calls)) (never-true n [] calls)

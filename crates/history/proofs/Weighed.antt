@@ -2,30 +2,25 @@
 use Prim.Native.Nat.{ℕ, suc, _+_, _-_, _*_, _≤_, _<_}
 use mathlib.Core.Path.{_≡_, refl, ap, _∙_}
 use mathlib.Core.Logic.{inl, inr}
-use mathlib.Core.Bool.{true, false}
+use mathlib.Core.Bool.{true}
 use mathlib.Core.List.{List, [], _∷_, List·Permᴰ}
 use native.Mathlib.Nat.{eq-zero-or-pos, mul-pos, one-le-pow}
 use native.Mathlib.Omega.{arith}
 use lib.Dec.{T, lit<}
 use lib.ListN.{length}
-use lib.Ieee.{Float, nan, inf, fin, lt}
+use lib.Ieee.{Float, nan, inf, fin}
 use lib.Ieee.Scale.{finite}
 use Rattle.float.specs.Answer.{answered}
 use Rattle.float.proofs.Each.{Each, each-perm}
-use Rattle.float.proofs.Refusal.{either}
 use Rattle.bandwidth.specs.Rate as Rate
-use Rattle.bandwidth.specs.declared.RateAnswer.{RateAnswer}
-use Rattle.config.specs.Config as Config
-use Rattle.rounding.specs.Exact.{Measured, exactWeight, exactSum, exactTotal, Close}
+use Rattle.rounding.specs.Exact.{Measured, Sound, exactWeight, exactSum, exactTotal, Close, AtMostOne}
 use Rattle.rounding.specs.Plain.{plain}
 use Rattle.rounding.specs.Ratio.{lossRatio, lossCeiling}
-use Rattle.rounding.proofs.Sums.{Sound}
-use Rattle.rounding.proofs.Ratio.{ratio-not-above-one}
+use Rattle.rounding.proofs.Ratio.{ratio-at-most-one}
 use Rattle.rounding.proofs.Ceiling.{Capped}
 use Rattle.rounding.proofs.AnyOrder.{length-perm, close-any-order, ceiling-any-order}
 use Rattle.observation.specs.Ratio as Ratio
 use Rattle.observation.specs.declared.Observations.{Observations}
-use Rattle.observation.proofs.Plain.{limit-is-ceiling}
 use Rattle.history.specs.History.{Pair, History}
 use Rattle.history.specs.WeighedPairs.{aged, window, weighedLost, weighedBytes, allBytes}
 use Rattle.history.proofs.Kept.{aged-sound}
@@ -80,16 +75,14 @@ module _ (o : Observations) (h : History) (t : Tied o h) where
   unfolding Ratio.averageReportedLossRatio
   tied-reported = rw tied-readable
 
-  -- nor is it above 1.0
-  pub tied-not-above-one : lt Config.«high_loss_rate_threshold» (lossRatio read) ≡ false
-  tied-not-above-one = ratio-not-above-one read (each-perm any-order sound) (rw (length-perm any-order) short)
-
-  -- so the ceiling is not refused
+  -- nor is the ceiling
   pub tied-ceiling-taken : Ratio.instantUpperBound o .refusal ≡ 0
-  unfolding Ratio.instantUpperBound Ratio.instantLimit
-  tied-ceiling-taken =
-      let above = lt Config.«instant_upper_bound_loss_offset» (lossRatio read) in
-      rw (tied-reported, tied-not-above-one) (either (λ (a : RateAnswer). a .refusal ≡ 0) above _ _ refl refl)
+  unfolding Ratio.instantUpperBound
+  tied-ceiling-taken = rw tied-reported
+
+  -- and the ratio is 1 at most
+  pub tied-at-most-one : AtMostOne (lossRatio read)
+  tied-at-most-one = ratio-at-most-one read (each-perm any-order sound) (rw (length-perm any-order) short)
 
   module _ (some : 0 < allBytes (h .pairs)) where
     -- an observation is complete
@@ -104,8 +97,8 @@ module _ (o : Observations) (h : History) (t : Tied o h) where
     pub tied-ceiling : 6 * weighedBytes h ≤ 100 * weighedLost h
         → (Ratio.cached (o .«cached_instant_upper_bound») ≡ Rate.rate (lossCeiling (Ratio.averageReportedLossRatio o .value)))
         × Capped (lossCeiling (Ratio.averageReportedLossRatio o .value)) (weighedLost h) (weighedBytes h)
-    unfolding Ratio.instantUpperBound Ratio.validOrMax
+    unfolding Ratio.instantUpperBound Ratio.instantLimit Ratio.validOrMax
     tied-ceiling six =
         let sets = ceiling-any-order read (window h) any-order sound short (aged-some 0 (h .pairs) some) six in
-        let limit = limit-is-ceiling (lossRatio read) (sets .taken) tied-not-above-one in
-        rw tied-reported (t .ceiling ∙ rw (tied-reported, limit, plain-finite (lossCeiling (lossRatio read)) (sets .capped .plainly)), sets .capped)
+        rw tied-reported
+        (t .ceiling ∙ rw (tied-reported, sets .taken, plain-finite (lossCeiling (lossRatio read)) (sets .capped .plainly)), sets .capped)

@@ -5,10 +5,14 @@ use mathlib.Core.Bool.{true, false}
 use mathlib.Core.List.{List, [], _∷_}
 use mathlib.Core.Option.{none, some}
 use lib.ListN.{length}
+use lib.Ieee.{le, ofBits}
+use Rattle.float.specs.Rounded.{bits}
+use Rattle.logarithm.specs.Ln.{logarithm}
 use Rattle.rounding.specs.Exact.{exactSum}
 use Rattle.history.specs.Calls.{Call, estimate, alr, report, read, Told}
 use Rattle.history.specs.History.{fresh, switched, bytesOf, lostOf, latest, completed, withRunning, withReport, heard, fed, after}
 use Rattle.history.specs.WeighedPairs.{aged, weighedLost, weighedBytes, allBytes}
+use Rattle.history.specs.Unreached.{outsideDomain}
 
 abbrev taken : Call → Told
 taken c = record { call = c; refused = false }
@@ -75,3 +79,9 @@ weighed :
     × weighedBytes (after (sent 0 0 0 ∷ sent 300000000 990 10 ∷ sent 600000000 90 10 ∷ [])) ≡ 100000000000000000
 unfolding fed heard withReport completed withRunning bytesOf lostOf latest aged exactSum
 weighed = (refl, refl)
+
+-- ---- the number of a refused logarithm
+
+zero-argument : logarithm (bits 0) .refusal ≡ outsideDomain
+unfolding logarithm le ofBits
+zero-argument = refl

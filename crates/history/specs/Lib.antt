@@ -5,4 +5,5 @@ pub mod Run
 pub mod Demand
 pub mod Refusals
 pub mod Unrefused
+pub mod Unreached
 mod Examples

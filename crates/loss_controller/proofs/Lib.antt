@@ -1,1 +1,2 @@
 pub mod Summaries
+pub mod LogarithmsTaken

@@ -1,6 +1,4 @@
 -- The ceiling that a loss ratio sets is not negative. Assumes nothing.
-use mathlib.Core.Path.{_≡_}
-use mathlib.Core.Bool.{false}
 use lib.Dec.{T}
 use lib.Ieee.{Float, binary64, eq, lt, ofBits}
 use lib.Ieee.Bits.{ofBits-fits}
@@ -9,7 +7,6 @@ use Rattle.float.proofs.NotNegative.{NotNegative, inf-not-negative}
 use Rattle.float.proofs.Refusal.{tested}
 use Rattle.bandwidth.specs.Rate as Rate
 use Rattle.bandwidth.specs.declared.Bitrate.{Bitrate}
-use Rattle.bandwidth.specs.declared.RateAnswer.{RateAnswer}
 use Rattle.bandwidth.proofs.NotNegativeRate.{NotNegativeRate}
 use Rattle.config.specs.Config as Config
 use Rattle.rounding.specs.Plain.{plain}
@@ -22,10 +19,10 @@ unfolding Rate.over
 over-not-negative r x p n =
     tested NotNegativeRate (eq x (bits 0)) (λ z. record { holds = ofBits-fits binary64 0; above = unfold ofBits in tt }) (div-not-negative (r .bps) x p n)
 
--- of a ratio that is not above 1.0
-pub limit-not-negative : (ratio : Float) → lt Config.«high_loss_rate_threshold» ratio ≡ false → NotNegativeRate (Ratio.instantLimit ratio .rate)
+-- whatever the ratio
+pub limit-not-negative : (ratio : Float) → NotNegativeRate (Ratio.instantLimit ratio)
 unfolding Ratio.instantLimit lossCeiling ofBits
-limit-not-negative ratio one =
-    tested (λ (a : RateAnswer). NotNegativeRate (a .rate)) (lt Config.«instant_upper_bound_loss_offset» ratio)
-    (λ l. rw one (over-not-negative Config.«instant_upper_bound_bandwidth_balance» _ tt (sub-not-negative ratio _ tt l)))
+limit-not-negative ratio =
+    tested NotNegativeRate (lt Config.«instant_upper_bound_loss_offset» ratio)
+    (λ l. over-not-negative Config.«instant_upper_bound_bandwidth_balance» _ tt (sub-not-negative ratio _ tt l))
     (λ l. inf-not-negative)

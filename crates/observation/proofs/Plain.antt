@@ -1,4 +1,4 @@
--- What the definitions of this crate say in the plain numbers of document 01's history, and in those of crate `rounding`. Assumes nothing.
+-- What the definitions of this crate say in the plain numbers of document 01's history. Assumes nothing.
 use Prim.Native.Nat.{ℕ, _+_, _-_}
 use mathlib.Core.Path.{_≡_, refl, sym, _∙_}
 use mathlib.Core.Bool.{Bool, true, false, cond}
@@ -6,18 +6,13 @@ use native.Mathlib.Omega.{arith}
 use borrow.Author.Tests.{ltb-true, ltb-false, lt-ltb, le-ltb}
 use lib.Dec.{ltb}
 use lib.IntN.{pos}
-use lib.Ieee.{Float, lt}
 use Rattle.integer.specs.Fitted.{ordered}
 use Rattle.integer.specs.declared.Ordering.the-variants.{Less, Equal, Greater}
-use Rattle.bandwidth.specs.Rate as Rate
 use Rattle.time.specs.Delta as Delta
 use Rattle.time.specs.Order.{isGt}
 use Rattle.time.specs.Time as Time
 use Rattle.time.specs.declared.TimeDelta.the-variants.{Negative, Positive}
 use Rattle.time.specs.declared.Timestamp.the-variants.{Exact}
-use Rattle.config.specs.Config as Config
-use Rattle.rounding.specs.Ratio.{lossCeiling}
-use Rattle.observation.specs.Ratio.{instantLimit}
 use Rattle.observation.specs.Window.{completes}
 
 -- whether a number is above another
@@ -45,9 +40,3 @@ completes-after last time = go (ltb last time) refl
         moved : (t : Bool) → ltb (time + 250000000) last ≡ t → ltb 250000000 (last - time) ≡ t
         moved true k = lt-ltb 250000000 (last - time) (omega (arith, ltb-true (time + 250000000) last k))
         moved false k = le-ltb 250000000 (last - time) (omega (arith, ltb-false (time + 250000000) last k))
-
--- the ceiling of a ratio above 0.05, and not above 1.0, is `lossCeiling`
-pub limit-is-ceiling : (ratio : Float) → lt Config.«instant_upper_bound_loss_offset» ratio ≡ true → lt Config.«high_loss_rate_threshold» ratio ≡ false
-    → instantLimit ratio ≡ Rate.answered (Rate.rate (lossCeiling ratio))
-unfolding instantLimit
-limit-is-ceiling ratio h k = rw (h, k)

@@ -4,7 +4,7 @@ use Prim.Native.Nat.{ℕ, _+_, _*_, _%_}
 use mathlib.Core.Path.{_≡_, refl}
 use mathlib.Core.Bool.{true, false}
 use mathlib.Core.List.{List, [], _∷_, map}
-use lib.Ieee.{add, binary64, div, eq, inf, inFloat, le, lt, mul, ofBits, ofInt, sub, toBits}
+use lib.Ieee.{add, binary64, div, eq, inf, inFloat, lt, mul, ofBits, ofInt, sub, toBits}
 use Rattle.float.specs.Rounded.{bits}
 use Rattle.duration.specs.Seconds.{seconds}
 use Rattle.integer.specs.Fitted.{ordered}
@@ -19,7 +19,7 @@ use Rattle.rounding.specs.Ratio.{lossRatio, lossCeiling}
 use Rattle.packets.specs.declared.PacketResultsSummary.{PacketResultsSummary}
 use Rattle.likelihood.specs.declared.Row.{Row}
 use Rattle.observation.specs.Partial as Partial
-use Rattle.observation.specs.Ratio.{age, window, readable, averageReportedLossRatio, highLossLimit, instantLimit, instantUpperBound, validOrMax, cached}
+use Rattle.observation.specs.Ratio.{age, window, readable, averageReportedLossRatio, instantLimit, instantUpperBound, validOrMax, cached}
 use Rattle.observation.specs.Window.{dummy, cleared, reference, completes, full, observed, stored, withCeiling, withPartial, renewed, completed}
 use Rattle.observation.specs.Window.{unchanged, added}
 use Rattle.observation.specs.Rows.{rowOf}
@@ -139,9 +139,9 @@ unreadable : readable (slot 0 9007199254740992 9 ∷ []) ≡ true × readable (s
 unfolding inFloat readable
 unreadable = (refl, refl, refl)
 
--- ---- the ceiling of a ratio: 0.05 and a NaN set none, 1.0 the least, and above 1.0, where no list comes, the Rust panics
+-- ---- the ceiling of a ratio: 0.05 and a NaN set none, 1.0 the least that a list reaches; then 2.0 and infinity, which no list reaches
 limit-examples :
-    map (λ b. instantLimit (bits b)) (0x3FA999999999999A ∷ 0x7FF8000000000000 ∷ 0x3FF0000000000000 ∷ 0x3FF0000000000001 ∷ []) ≡
-    Rate.answered (Rate.rate (inf false)) ∷ Rate.answered (Rate.rate (inf false)) ∷ Rate.answered (Rate.rate (bits 0x40F9B2F286BCA1AF)) ∷ Rate.refused ∷ []
-unfolding lossCeiling instantLimit highLossLimit Rate.over Rate.minus Rate.times add div eq le lt mul ofBits sub
+    map (λ b. instantLimit (bits b)) (0x3FA999999999999A ∷ 0x7FF8000000000000 ∷ 0x3FF0000000000000 ∷ 0x4000000000000000 ∷ 0x7FF0000000000000 ∷ []) ≡
+    map Rate.rate (inf false ∷ inf false ∷ bits 0x40F9B2F286BCA1AF ∷ bits 0x40E90A41A41A41A4 ∷ bits 0 ∷ [])
+unfolding lossCeiling instantLimit Rate.over add div eq lt ofBits sub
 limit-examples = refl

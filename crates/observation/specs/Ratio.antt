@@ -55,22 +55,14 @@ averageReportedLossRatio o =
 
 -- ---- calculate_instant_upper_bound
 
--- "The branch for a ratio above 1.0 is carried over as written": rate minus rate refuses where the second is larger
-unfoldable pub highLossLimit : Float → RateAnswer
-highLossLimit ratio =
-    let limit = Rate.minus Config.«bandwidth_cap_at_high_loss_rate» (Rate.times Config.«slope_of_bwe_high_loss_function» ratio) in
-    cond (eqb (limit .refusal) 0) (Rate.answered (Rate.larger (limit .rate) Config.«min_bitrate»)) Rate.refused
-
 -- the maximum rate; above 0.05, 100 kbps / (ratio - 0.05), so that "a ratio equal to 0.05 sets no ceiling"
-unfoldable pub instantLimit : Float → RateAnswer
-instantLimit ratio =
-    cond (lt Config.«instant_upper_bound_loss_offset» ratio)
-    (cond (lt Config.«high_loss_rate_threshold» ratio) (highLossLimit ratio)
-    (Rate.answered (Rate.rate (lossCeiling ratio))))
-    (Rate.answered Config.«max_bitrate»)
+unfoldable pub instantLimit : Float → Bitrate
+instantLimit ratio = cond (lt Config.«instant_upper_bound_loss_offset» ratio) (Rate.rate (lossCeiling ratio)) Config.«max_bitrate»
 
 unfoldable pub instantUpperBound : Observations → RateAnswer
-instantUpperBound o = let ratio = averageReportedLossRatio o in cond (eqb (ratio .refusal) 0) (instantLimit (ratio .value)) Rate.refused
+instantUpperBound o =
+    let ratio = averageReportedLossRatio o in
+    cond (eqb (ratio .refusal) 0) (Rate.answered (instantLimit (ratio .value))) Rate.refused
 
 -- ---- get_instant_upper_bound
 

@@ -536,7 +536,10 @@ impl Observations {
         if refusal != 0 {
             return RateAnswer::REFUSED;
         }
-        instant_limit(ratio.value)
+        RateAnswer {
+            rate: instant_limit(ratio.value),
+            refusal: 0,
+        }
     }
 
     pub fn get_instant_upper_bound(self) -> Bitrate
@@ -560,42 +563,16 @@ fn valid_or_max(bitrate: Bitrate) -> Bitrate
     Bitrate::infinity()
 }
 
-fn instant_limit(average_reported_loss_ratio: f64) -> RateAnswer
+// The Rust has a branch for a ratio above 1.0, which no list reaches.
+fn instant_limit(average_reported_loss_ratio: f64) -> Bitrate
     ensures { λ r. ⌜ r ≡ Ratio.instantLimit «average_reported_loss_ratio» ⌝ }
 {
     if average_reported_loss_ratio > config::INSTANT_UPPER_BOUND_LOSS_OFFSET {
-        if average_reported_loss_ratio > config::HIGH_LOSS_RATE_THRESHOLD {
-            return high_loss_limit(average_reported_loss_ratio);
-        }
         let balance = config::INSTANT_UPPER_BOUND_BANDWIDTH_BALANCE;
         let excess = average_reported_loss_ratio - config::INSTANT_UPPER_BOUND_LOSS_OFFSET;
-        return RateAnswer {
-            rate: balance.div_f64(excess),
-            refusal: 0,
-        };
+        return balance.div_f64(excess);
     }
-    RateAnswer {
-        rate: Bitrate::infinity(),
-        refusal: 0,
-    }
-}
-
-// As written in the Rust: above 1.0 the slope takes more than the cap, so the subtraction refuses.
-fn high_loss_limit(average_reported_loss_ratio: f64) -> RateAnswer
-    ensures { λ r. ⌜ r ≡ Ratio.highLossLimit «average_reported_loss_ratio» ⌝ }
-{
-    let cap = config::BANDWIDTH_CAP_AT_HIGH_LOSS_RATE;
-    let slope = config::SLOPE_OF_BWE_HIGH_LOSS_FUNCTION;
-    let limit = cap.sub(slope.mul_f64(average_reported_loss_ratio));
-    let refusal = limit.refusal;
-    if refusal != 0 {
-        return RateAnswer::REFUSED;
-    }
-    let limit = limit.rate;
-    RateAnswer {
-        rate: limit.max(config::MIN_BITRATE),
-        refusal: 0,
-    }
+    Bitrate::infinity()
 }
 
 // ---- rows for the likelihood

@@ -5,9 +5,8 @@ use Prim.Native.Nat.{ℕ, suc, _*_, _≤_, _<_}
 use native.Mathlib.Nat.{add-left-comm}
 use lib.ListN.{length}
 use Rattle.float.proofs.Each.{Each, each-perm}
-use Rattle.rounding.specs.Exact.{Measured, exactWeight, exactSum, exactTotal, exactLost, Close}
+use Rattle.rounding.specs.Exact.{Measured, Sound, exactWeight, exactSum, exactTotal, exactLost, Close}
 use Rattle.rounding.specs.Ratio.{lossRatio}
-use Rattle.rounding.proofs.Sums.{Sound}
 use Rattle.rounding.proofs.Ratio.{ratio-close}
 use Rattle.rounding.proofs.Ceiling.{SetsCeiling, ratio-sets-ceiling}
 

@@ -14,7 +14,7 @@ use Rattle.float.specs.Rounded.{_⊖_, bits}
 use Rattle.float.proofs.Each.{Each}
 use Rattle.bandwidth.specs.Rate as Rate
 use Rattle.config.specs.Config as Config
-use Rattle.rounding.specs.Exact.{Measured, exactTotal, exactLost, ceilingPart, UnderCeiling}
+use Rattle.rounding.specs.Exact.{Measured, Sound, exactTotal, exactLost, ceilingPart, UnderCeiling}
 use Rattle.rounding.specs.Plain.{plain}
 use Rattle.rounding.specs.Ratio.{lossRatio, lossCeiling}
 use Rattle.rounding.proofs.Parts.{within-share}
@@ -22,7 +22,6 @@ use Rattle.rounding.proofs.Round.{Near, ranged}
 use Rattle.rounding.proofs.Operations.{eq-zero}
 use Rattle.rounding.proofs.Near.{near-more, near-terms, near-pos, near-exact, near-test, near-of-test, div-near, Cancels, sub-near, near-lt}
 use Rattle.rounding.proofs.Order.{Under}
-use Rattle.rounding.proofs.Sums.{Sound}
 use Rattle.rounding.proofs.Ratio.{lost-part, total-bounded, ratio-near}
 
 abbrev lossOffset : Float

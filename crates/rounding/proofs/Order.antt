@@ -5,13 +5,14 @@ use mathlib.Core.Bool.{Bool, true, false, _&&_, _||_}
 use Prim.Native.Nat.{ℕ, _+_, _*_, _^_, _≤_, _<_}
 use native.Mathlib.Nat.{le-of-eq, le-trans, mul-pos, mul-le-mul, mul-le-mul-right}
 use native.Mathlib.Omega.{arith}
-use borrow.Author.Tests.{le-ltb, ltb-false}
+use borrow.Author.Tests.{ltb-false}
 use lib.IntN.{pos}
 use lib.Dec.{T, ltb, eqb, ltb→lt, eqb→eq, lit<}
 use lib.Ieee.{Float, fin, binary64, up, down, round, lt, le, ofInt, ofBits}
 use lib.Ieee.Order.{round-mono}
 use lib.Ieee.Positive.{num, den, den-pos}
-use Rattle.float.specs.Rounded.{_⊕_, _⊗_, _⊘_, bits}
+use Rattle.float.specs.Rounded.{_⊕_, _⊗_, _⊘_, one}
+use Rattle.rounding.specs.Exact.{AtMostOne}
 use Rattle.rounding.specs.Plain.{plain}
 use Rattle.rounding.proofs.Operations.{mul-is, add-is, div-is, lt-is}
 use Rattle.rounding.proofs.Near.{whole-near}
@@ -22,11 +23,7 @@ pub record Under (x y : Float) : Type 0 where
   pub right : T (plain y)
   pub below : num x * den y ≤ num y * den x
 
--- x < y is false where y ≤ x
-pub under-not-lt : {x y : Float} → Under y x → lt x y ≡ false
-under-not-lt {x} {y} u = rw (lt-is x y (u .right) (u .left)) (le-ltb (num x * den y) (num y * den x) (u .below))
-
--- and the other way round
+-- y ≤ x where x < y is false
 pub under-of-not-lt : {x y : Float} → T (plain x) → T (plain y) → lt x y ≡ false → Under y x
 under-of-not-lt {x} {y} p q h = record { left = q; right = p; below = ltb-false (num x * den y) (num y * den x) (rw (lt-is x y p q) at h) }
 
@@ -74,15 +71,16 @@ add-under {x} {y} {x'} {y'} u v p q =
     (mul-pos (den-pos x) (den-pos y)) (mul-pos (den-pos x') (den-pos y')) (omega arith) p q
 
 -- ---- x / y ≤ 1 for x ≤ y
-one-is : bits 0x3FF0000000000000 ≡ round binary64 false 1 1
+one-is : one ≡ round binary64 false 1 1
 unfolding ofBits round
 one-is = refl
 
-pub div-under-one : {x y : Float} → Under x y → 0 < num y → T (plain (x ⊘ y)) → Under (x ⊘ y) (bits 0x3FF0000000000000)
+pub div-at-most-one : {x y : Float} → Under x y → 0 < num y → T (plain (x ⊘ y)) → AtMostOne (x ⊘ y)
 unfolding ofBits
-div-under-one {x} {y} u Y p =
-    round-under (num x * den y) (num y * den x) 1 1 (div-is x y (u .left) (u .right) Y) one-is (mul-pos Y (den-pos x)) (lit< tt)
-    (flat (num x * den y) (num y * den x) (u .below)) p tt
+div-at-most-one {x} {y} u Y p =
+    let l = round-under (num x * den y) (num y * den x) 1 1 (div-is x y (u .left) (u .right) Y) one-is (mul-pos Y (den-pos x)) (lit< tt)
+    (flat (num x * den y) (num y * den x) (u .below)) p tt in
+    record { plainly = p; below = omega (arith, l .below) }
   where
     flat : (a b : ℕ) → a ≤ b → a * 1 ≤ 1 * b
     flat a b h = omega arith

@@ -1,7 +1,6 @@
 -- The loss ratio of a sound window of at most fifteen observations: within r/2^46 of r, and never above 1. Assumes nothing.
-use mathlib.Core.Path.{_≡_, refl, subst}
+use mathlib.Core.Path.{_≡_, subst}
 use mathlib.Core.Logic.{inl, inr}
-use mathlib.Core.Bool.{false}
 use mathlib.Core.List.{List}
 use Prim.Native.Nat.{ℕ, _*_, _^_, _≤_, _<_}
 use native.Mathlib.Nat.{le-trans, mul-le-mul-right, eq-zero-or-pos}
@@ -9,19 +8,18 @@ use native.Mathlib.Omega.{arith}
 use borrow.Author.Tests.{eq-eqb, ne-eqb}
 use lib.Dec.{lit≤, lit<}
 use lib.ListN.{length}
-use lib.Ieee.{lt, ofBits}
+use lib.Ieee.{ofBits}
 use lib.Ieee.Positive.{num}
 use Rattle.float.specs.Rounded.{_⊘_, bits}
 use Rattle.float.proofs.Each.{Each}
-use Rattle.config.specs.Config as Config
-use Rattle.rounding.specs.Exact.{Measured, exactTotal, exactLost, ratioPart, Close}
+use Rattle.rounding.specs.Exact.{Measured, Sound, exactTotal, exactLost, ratioPart, Close, AtMostOne}
 use Rattle.rounding.specs.Ratio.{floatTotal, floatLost, lossRatio}
 use Rattle.rounding.proofs.Parts.{within-share}
 use Rattle.rounding.proofs.Round.{Near, ranged}
 use Rattle.rounding.proofs.Operations.{eq-zero}
 use Rattle.rounding.proofs.Near.{near-more, near-terms, near-pos, near-zero, div-near}
-use Rattle.rounding.proofs.Order.{under-not-lt, div-under-one}
-use Rattle.rounding.proofs.Sums.{Sound, Sums, window-sums}
+use Rattle.rounding.proofs.Order.{div-at-most-one}
+use Rattle.rounding.proofs.Sums.{Sums, window-sums}
 
 module _ (os : List Measured) (sound : Each Sound os) (short : length os ≤ 15) where
   sums : Sums (length os) (floatLost os) (floatTotal os) (exactLost os) (exactTotal os)
@@ -73,9 +71,9 @@ module _ (os : List Measured) (sound : Each Sound os) (short : length os ≤ 15)
         let s = within-share ratioPart (lit< tt) (lit≤ tt) (ratio-near .parts) in
         record { plainly = ratio-near .plainly; above = omega (arith, s .above); below = omega (arith, s .below) }
 
-  -- the test `ratio > 1.0` fails, whatever the total
-  pub ratio-not-above-one : lt Config.«high_loss_rate_threshold» (lossRatio os) ≡ false
-  ratio-not-above-one = elim (eq-zero-or-pos (exactTotal os)) [
-    | inl none ↦ rw (ratio-none none) (unfold lt ofBits in refl)
-    | inr some ↦ let p = ratio-near some .plainly in rw (ratio-is some) (under-not-lt (div-under-one (sums .order) (total-pos some) (rw (ratio-is some) at p)))
+  -- the ratio is 1 at most, whatever the total
+  pub ratio-at-most-one : AtMostOne (lossRatio os)
+  ratio-at-most-one = elim (eq-zero-or-pos (exactTotal os)) [
+    | inl none ↦ rw (ratio-none none) (unfold ofBits in record { plainly = tt; below = lit≤ tt })
+    | inr some ↦ let p = ratio-near some .plainly in rw (ratio-is some) (div-at-most-one (sums .order) (total-pos some) (rw (ratio-is some) at p))
   ]

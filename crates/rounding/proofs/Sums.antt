@@ -15,18 +15,12 @@ use lib.Ieee.Positive.{num, den}
 use Rattle.float.specs.Rounded.{_⊕_, _⊗_, bits}
 use Rattle.float.proofs.Each.{Each, none, more}
 use Rattle.logarithm.specs.Power.{weight}
-use Rattle.rounding.specs.Exact.{Measured, exactWeight, exactSum, exactTotal, exactLost}
+use Rattle.rounding.specs.Exact.{Measured, Sound, exactWeight, exactSum, exactTotal, exactLost}
 use Rattle.rounding.specs.Ratio.{addWeighted, floatTotal, floatLost}
 use Rattle.rounding.proofs.Round.{Near, ranged}
 use Rattle.rounding.proofs.Near.{near-more, near-terms, near-exact, whole-near, mul-near, add-near}
 use Rattle.rounding.proofs.Order.{Under, whole-under, mul-under, add-under}
 use Rattle.rounding.proofs.Weight.{weight-near}
-
--- the observations of which the laws speak: an age below 15, a total up to 10^12 (code 10), and no more lost than there was
-pub record Sound (o : Measured) : Type 0 where
-  pub young : o .age < 15
-  pub bounded : o .total ≤ 10 ^ 12
-  pub part : o .lost ≤ o .total
 
 -- ---- one term
 tens : (age : ℕ) → age < 15 → 10 ^ age * 10 ^ (14 - age) ≡ 10 ^ 14

@@ -1,6 +1,7 @@
--- The loss ratio of a window in whole numbers, and how near the floats have to come to it (document 01, "Demand 3 is stated in whole numbers").
+-- The loss ratio of a window in whole numbers, and how near the floats have to come to it (document 01, "Demand 3 is stated in whole numbers"); what is
+-- at most 1.
 -- What is measured, bytes or packets, is not said here. Definitions only.
-use Prim.Native.Nat.{ℕ, _+_, _-_, _*_, _^_, _≤_}
+use Prim.Native.Nat.{ℕ, _+_, _-_, _*_, _^_, _≤_, _<_}
 use mathlib.Core.List.{List, [], _∷_}
 use lib.Dec.{T}
 use lib.Ieee.{Float}
@@ -42,6 +43,18 @@ pub record Close (x : Float) (l t : ℕ) : Type 0 where
   pub above : num x * t * ratioPart ≤ l * den x * ratioPart + l * den x
   pub below : l * den x * ratioPart ≤ num x * t * ratioPart + l * den x
 
+-- x is finite with its sign clear, and at most 1
+pub record AtMostOne (x : Float) : Type 0 where
+  pub plainly : T (plain x)
+  pub below : num x ≤ den x
+
 -- a finite x with its sign clear exceeds 100,000 / (r - 1/20), which is 2,000,000 t / (20 l - t), by no more than one part in `ceilingPart`
 abbrev pub UnderCeiling : Float → ℕ → ℕ → Type 0
 UnderCeiling x l t = num x * (20 * l) * ceilingPart ≤ 2000000 * t * den x * (ceilingPart + 1) + num x * t * ceilingPart
+
+-- ---- for the laws: the observations they speak of
+-- an age that is "always below 15", a total that code 10 takes, and no more lost than there was
+pub record Sound (o : Measured) : Type 0 where
+  pub young : o .age < 15
+  pub bounded : o .total ≤ 10 ^ 12
+  pub part : o .lost ≤ o .total

@@ -18,6 +18,11 @@ no-total : toBits binary64 (lossRatio []) ≡ 0
 unfolding lossRatio eq ofBits toBits
 no-total = refl
 
+-- one observation: all of 1 lost
+all-lost : toBits binary64 (lossRatio (of-age 0 1 1 ∷ [])) ≡ 0x3FF0000000000000
+unfolding lossRatio weight add div eq mul ofBits ofInt toBits
+all-lost = refl
+
 -- one observation: 50 of 1,000 lost sets no ceiling, 100 of 1,000 one of 2,000,000 bit/s
 no-ceiling : lt Config.«instant_upper_bound_loss_offset» (lossRatio (of-age 0 1000 50 ∷ [])) ≡ false
 unfolding lossRatio weight add div eq lt mul ofBits ofInt

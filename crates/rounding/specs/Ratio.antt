@@ -27,6 +27,6 @@ unfoldable pub lossRatio : List Measured → Float
 lossRatio os = cond (eq (floatTotal os) (bits 0)) (bits 0) (floatLost os ⊘ floatTotal os)
 
 -- ---- `calculate_instant_upper_bound`
--- what a ratio above 0.05, and not above 1.0, sets, in bit/s
+-- what a ratio above 0.05 sets, in bit/s
 unfoldable pub lossCeiling : Float → Float
 lossCeiling ratio = Rate.over Config.«instant_upper_bound_bandwidth_balance» (ratio ⊖ Config.«instant_upper_bound_loss_offset») .bps
