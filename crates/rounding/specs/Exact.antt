@@ -1,6 +1,5 @@
--- The loss ratio of a window in whole numbers, and how near the floats have to come to it (document 01, "Demand 3 is stated in whole numbers"); what is
--- at most 1.
--- What is measured, bytes or packets, is not said here. Definitions only.
+-- The loss ratio of a window in whole numbers, how near the floats have to come to it (document 01, "Demand 3 is stated in whole numbers"), and floats
+-- that are at most 1. What is measured, bytes or packets, is not said here. Definitions only.
 use Prim.Native.Nat.{ℕ, _+_, _-_, _*_, _^_, _≤_, _<_}
 use mathlib.Core.List.{List, [], _∷_}
 use lib.Dec.{T}
