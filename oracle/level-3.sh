@@ -1,6 +1,6 @@
 #!/bin/sh
 # Usage: oracle/level-3.sh
-# Shows that the published Rust, with its own f64::powi, differs from itself by optimisation level:
+# Shows that the Rust, with its own f64::powi, differs from itself by optimisation level:
 # the weights at levels 0 to 3, and a list of 13 lines that publishes another rate at level 3. Exit
 # status 0 if that is so with this rustc.
 set -eu

@@ -4,12 +4,19 @@
 # What is found depends on the platform's logarithm; see examples/README.md. With the word 'check'
 # nothing is written, and the exit status tells whether the search finds the stored lists.
 set -eu
+case "$*" in
+'' | check) ;;
+*)
+    echo "usage: oracle/near-ties.sh [check]" >&2
+    exit 2
+    ;;
+esac
 cd "$(dirname "$0")/.."
 search=$(oracle/build.sh near_ties)
 found=target/oracle/near_ties
 rm -rf "$found" && mkdir -p "$found/1" "$found/2"
-"$search" 37 1 "$found/1"
-"$search" 122 2 "$found/2"
+"$search" 133 1 "$found/1"
+"$search" 97 2 "$found/2"
 while read -r kept name; do
     list=$found/$(dirname "$kept")/near_tie_$(basename "$kept")
     if [ "${1:-}" = check ]; then
@@ -20,12 +27,13 @@ while read -r kept name; do
     echo "$name"
     cat "$list.why"
 done <<LISTS
-1/37 logarithm_doubles_rate
-1/30 logarithm_raises_by_quarter
-1/15 logarithm_raises_by_fifth
-1/35 logarithm_keeps_600_kbit
-1/8 logarithm_drops_255_kbit
-1/22 logarithm_keeps_381_kbit
-1/32 logarithm_drops_22_bit
-2/122 logarithm_keeps_111_kbit
+2/67 logarithm_triples_rate
+2/49 logarithm_halves_rate
+1/27 logarithm_raises_by_quarter
+2/97 logarithm_drops_by_fifth
+2/11 logarithm_keeps_352_kbit
+1/8 logarithm_drops_256_kbit
+1/28 logarithm_drops_64_kbit
+1/131 logarithm_drops_28_bit
+1/133 logarithm_drops_31_bit
 LISTS

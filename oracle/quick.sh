@@ -90,6 +90,22 @@ for list in examples/*.txt; do
 done
 echo "the examples: agree"
 
+# The smallest list of docs/DIFFERENCES.md, 'Departures by request', and the picture there.
+{
+    line 1 4607182418800017408 0 0
+    line 5 0 0 1
+    line 6 4607182418800017408 0 0
+    line 5 250000001 1 1
+    line 6 4607182418800017408 0 0
+} | holds "the bias as libWebRTC groups it" ' 0 0 1 4607182418800017408 4562254508917369340'
+echo "the departures: agree"
+if command -v python3 >/dev/null 2>&1; then
+    oracle/groupings.py check
+    echo "the picture: agrees"
+else
+    echo "no python3: the picture is skipped"
+fi
+
 # The comparison finds no difference where there is none, and one where there is one.
 compare=$(oracle/build.sh compare)
 "$compare" 500 1 -- "$answer"

@@ -42,9 +42,7 @@ pub const KINDS: &[(&str, &str, Make)] = &[
     ("near", "one choice, up to fifty floats from where it flips", |random, list| {
         ties::near(random.below(100_000_000), list);
     }),
-    ("argument", "choices that hang on one given logarithm", |random, list| {
-        ties::argument((1.2 + 0.2 * random.fraction()).to_bits(), list);
-    }),
+    ("argument", "choices that hang on one logarithm, of 1 + rate", ties::argument),
     (
         "asides",
         "calls that should change nothing or one field, where every field counts",
@@ -63,11 +61,10 @@ pub fn make(name: &str, seed: u64) -> Option<Vec<u8>> {
     let place = KINDS.iter().position(|kind| kind.0 == name)?;
     let mut random = Random::new(seed.wrapping_mul(1_000_003).wrapping_add(place as u64));
     let mut list = List::new();
-    // The first seeds of targets are their numbers; all seeds of near and argument are numbers too.
+    // The first seeds of targets are their numbers; all seeds of near are numbers too.
     match name {
         "targets" if seed < targets::COUNT => targets::target(seed, &mut list),
         "near" => ties::near(seed, &mut list),
-        "argument" => ties::argument(seed, &mut list),
         _ => KINDS[place].2(&mut random, &mut list),
     }
     Some(list.text)

@@ -2,7 +2,7 @@
 //! document 01's. Usage: near_ties COUNT SEED DIRECTORY.
 //!
 //! A short list has one float that is bisected to where the choice between two candidates flips;
-//! the floats next to that place are tried with both logarithms.
+//! the floats next to that place are tried with both logarithms. The list ends where the two part.
 
 use std::process::ExitCode;
 use std::{env, fs, io};
@@ -20,6 +20,7 @@ mod line;
 mod platform_bwe;
 #[allow(dead_code)]
 mod random;
+#[allow(dead_code)]
 mod tie;
 
 use answer_line::{Answer, ANSWER_LENGTH};
@@ -82,6 +83,12 @@ impl Both {
     }
 }
 
+/// The list up to the first line after which they part.
+fn until_parted(lines: &[Line]) -> &[Line] {
+    let parted = (1..lines.len()).find(|&end| both(&lines[..end]).part());
+    &lines[..parted.unwrap_or(lines.len())]
+}
+
 fn search(count: usize, seed: u64, directory: &str) -> io::Result<()> {
     let mut random = Random::new(seed);
     let (mut found, mut tries, mut places) = (0, 0_u64, 0_u64);
@@ -96,9 +103,10 @@ fn search(count: usize, seed: u64, directory: &str) -> io::Result<()> {
             };
             found += 1;
             let lines = tie.with(a);
+            let lines = until_parted(&lines);
             let list: Vec<String> = lines.iter().map(|line| text(line) + "\n").collect();
             fs::write(format!("{directory}/near_tie_{found}.txt"), list.concat())?;
-            fs::write(format!("{directory}/near_tie_{found}.why"), both(&lines).explain())?;
+            fs::write(format!("{directory}/near_tie_{found}.why"), both(lines).explain())?;
             break;
         }
     }

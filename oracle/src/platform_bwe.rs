@@ -1,4 +1,4 @@
-//! str0m's module `bwe` as far as the loss controller reaches, with the platform's logarithm and powers, as published.
+//! str0m's module `bwe` as far as the loss controller reaches, with the platform's logarithm and powers.
 
 #[macro_use]
 #[path = "log.rs"]

@@ -1,4 +1,4 @@
-//! Answers the call list on standard input with the published Rust's own `f64::ln` and `f64::powi`.
+//! Answers the call list on standard input with `f64::ln` and `f64::powi`, as the published Rust does.
 //! What it answers depends on the platform and on the optimisation level; see README.md.
 
 use std::io;

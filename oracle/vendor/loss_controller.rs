@@ -774,7 +774,8 @@ impl LossController {
 
     fn adjust_bias_factor(&self, loss_rate: f64, bias_factor: f64) -> f64 {
         let diff = self.config.threshold_of_high_bandwidth_preference - loss_rate;
-        bias_factor * (diff / self.config.bandwidth_preference_smoothing_factor + diff.abs())
+        // EDIT 12: bias_factor * (diff / smoothing + |diff|), regrouped as in libWebRTC (request Q-9).
+        bias_factor * diff / (self.config.bandwidth_preference_smoothing_factor + diff.abs())
     }
 
     fn calculate_instant_upper_bound(&self) -> Bitrate {

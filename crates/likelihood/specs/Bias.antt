@@ -16,11 +16,11 @@ use Rattle.config.specs.Config.{«higher_log_bandwidth_bias_factor»}
 abbrev pub onward : FloatAnswer → (Float → FloatAnswer) → FloatAnswer
 onward a f = cond (eqb (a .refusal) 0) (f (a .value)) a
 
--- The bias factor is factor × (diff / 0.002 + |diff|), grouped so ("Corners, file by file"; adjust_bias_factor)
+-- "the bias factor is (factor × diff) / (0.002 + |diff|), diff = 0.2 - ratio, each operation rounded once (Q-9)"; adjust_bias_factor
 unfoldable pub adjusted : Float → Float → Float
-adjusted loss factor =
-    let diff = «threshold_of_high_bandwidth_preference» ⊖ loss in
-    factor ⊗ (diff ⊘ «bandwidth_preference_smoothing_factor» ⊕ magnitude diff)
+adjusted ratio factor =
+    let diff = «threshold_of_high_bandwidth_preference» ⊖ ratio in
+    (factor ⊗ diff) ⊘ («bandwidth_preference_smoothing_factor» ⊕ magnitude diff)
 
 -- 0.0 at a rate that is not finite; refused where 1 + rate has no logarithm (get_high_bandwidth_bias)
 unfoldable pub bias : Bitrate → Float → FloatAnswer

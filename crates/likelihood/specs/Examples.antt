@@ -1,5 +1,5 @@
--- Worked examples of the definitions beside this file, which antt computes. The stated bits are those that the Rust's functions give, with ln and
--- powi by oracle/src/steps.rs. They test the definitions; no proof cites them.
+-- Worked examples of the definitions beside this file, which antt computes. The stated bits are those that the oracle's functions give: the
+-- Rust's, with the edits that oracle/README.md lists. They test the definitions; no proof cites them.
 use Prim.Native.Nat.{ℕ}
 use mathlib.Core.Path.{_≡_, refl}
 use mathlib.Core.Bool.{Bool, true, false}
@@ -117,19 +117,25 @@ newton-examples = (refl, refl, refl)
 
 -- ---- bias
 
--- 0.0002 and 0.02 at the ratios 0, 0.1, 0.2 and 0.3
+-- 0, 0.05, 0.1, 0.2, 0.3 and 1
+ratios : List ℕ
+ratios = 0 ∷ 0x3FA999999999999A ∷ tenth ∷ 0x3FC999999999999A ∷ 0x3FD3333333333333 ∷ 0x3FF0000000000000 ∷ []
+
+-- 0.0002 and 0.02 at these ratios; at an infinite ratio, infinity over infinity, and at a NaN
 adjusted-examples :
-    each (λ x. adjusted x (bits 0x3F2A36E2EB1C432D)) (0 ∷ tenth ∷ 0x3FC999999999999A ∷ 0x3FD3333333333333 ∷ []) ≡
-    0x3F94855DA2728630 ∷ 0x3F84855DA2728630 ∷ 0 ∷ 0xBF847064ECE9A2C5 ∷ []
-    × each (λ x. adjusted x (bits 0x3F947AE147AE147B)) (0 ∷ tenth ∷ 0x3FC999999999999A ∷ 0x3FD3333333333333 ∷ []) ≡
-    0x4000083126E978D5 ∷ 0x3FF0083126E978D5 ∷ 0 ∷ 0xBFEFEF9DB22D0E53 ∷ []
-unfolding each adjusted magnitude add div mul ofBits sub toBits
-adjusted-examples = (refl, refl)
+    each (λ x. adjusted x (bits 0x3F2A36E2EB1C432D)) ratios ≡
+    0x3F29F471259D3FFA ∷ 0x3F29DE95D3CE6AB7 ∷ 0x3F29B34CE68019B3 ∷ 0 ∷ 0xBF29B34CE68019B3 ∷ 0xBF2A2626A9682979 ∷ []
+    × each (λ x. adjusted x (bits 0x3F947AE147AE147B)) ratios ≡
+    0x3F9446F86562D9FB ∷ 0x3F9435E50D79435E ∷ 0x3F94141414141414 ∷ 0 ∷ 0xBF94141414141414 ∷ 0xBF946DCE34596066 ∷ []
+    × each (λ x. adjusted x (bits 0x3F947AE147AE147B)) (0x7FF0000000000000 ∷ 0x7FF8000000000000 ∷ []) ≡
+    0x7FF8000000000000 ∷ 0x7FF8000000000000 ∷ []
+unfolding each adjusted ratios magnitude add div mul ofBits sub toBits
+adjusted-examples = (refl, refl, refl)
 
 -- at the ratio 0.1: 1,000,000 and -0.5 bit/s, infinity, a NaN; refused at -1 bit/s
 bias-examples :
     map (λ b. bias (bps b) (bits tenth)) (million ∷ 0xBFE0000000000000 ∷ 0x7FF0000000000000 ∷ 0x7FF8000000000000 ∷ 0xBFF0000000000000 ∷ []) ≡
-    answered (bits 0x40C398EBEC1899CE) ∷ answered (bits 0xBFE662A8FF5D5146) ∷ answered (bits 0) ∷ answered (bits 0)
+    answered (bits 0x40688B2DA9037CD7) ∷ answered (bits 0xBF8C091001EDE987) ∷ answered (bits 0) ∷ answered (bits 0)
     ∷ record { value = bits 0; refusal = 6 } ∷ []
 unfolding bias adjusted logarithm magnitude add div le lt mul ofBits ofInt sub toBits
 bias-examples = refl
@@ -140,7 +146,7 @@ bias-examples = refl
 objective-examples :
     map (objective rows (bits tenth))
     (candidate hundredth million ∷ candidate 0x3FE0000000000000 0x41324F8000000000 ∷ candidate hundredth 0x7FF0000000000000 ∷ []) ≡
-    answered (bits 0x40428FCA7ACDD48E) ∷ answered (bits 0x404644C05E06BAF7) ∷ answered (bits 0xBF470D34D5CD008D) ∷ []
+    answered (bits 0x3FE7303F4DB8C88F) ∷ answered (bits 0x3FEBC6E44BFD0D5C) ∷ answered (bits 0xBF470D34D5CD008D) ∷ []
     × objective rows (bits tenth) (candidate 0x7FF8000000000000 million) ≡ record { value = bits 0; refusal = 6 }
     × objective rows (bits tenth) (candidate hundredth 0xBFF0000000000000) ≡ record { value = bits 0; refusal = 6 }
 unfolding rows objective addTerms bias adjusted logarithm magnitude probability congested clamped minus add div eq le lt mul ofBits ofInt sub toBits

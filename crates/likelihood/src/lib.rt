@@ -178,11 +178,12 @@ pub fn newtons_method_update(
 
 // ---- bias
 
+// Grouped as in libWebRTC, by request (Q-9); the Rust has bias_factor * (diff / smoothing + |diff|).
 pub fn adjust_bias_factor(loss_rate: f64, bias_factor: f64) -> f64
     ensures { λ r. ⌜ r ≡ adjusted «loss_rate» «bias_factor» ⌝ }
 {
     let diff = config::THRESHOLD_OF_HIGH_BANDWIDTH_PREFERENCE - loss_rate;
-    bias_factor * (diff / config::BANDWIDTH_PREFERENCE_SMOOTHING_FACTOR + float::abs(diff))
+    bias_factor * diff / (config::BANDWIDTH_PREFERENCE_SMOOTHING_FACTOR + float::abs(diff))
 }
 
 // Refusal 6 where 1.0 + bandwidth has no logarithm.

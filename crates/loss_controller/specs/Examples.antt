@@ -1,5 +1,5 @@
--- Worked examples of the definitions beside this file, which antt computes; the answers are those of the Rust with document 01's logarithm and
--- powers. They test the definitions; no proof cites them.
+-- Worked examples of the definitions beside this file, which antt computes; the answers are the oracle's: those of the Rust with the edits that
+-- oracle/README.md lists. They test the definitions; no proof cites them.
 use Prim.Native.Nat.{ℕ, _^_}
 use mathlib.Core.Path.{_≡_, refl}
 use mathlib.Core.List.{List, [], _∷_, map}
@@ -134,18 +134,25 @@ empty : Report.updateBandwidthEstimate initial [] [] [] (Rate.rate (bits megabit
 unfolding Report.updateBandwidthEstimate Report.reported Setters.rateRefusal columnsRefusal packets summaryOf signBit lt ofBits toBits
 empty = refl
 
--- ---- a whole report: 2 Mbit/s estimated, 1.5 acknowledged, 3 from the delay controller; 9,000 of 70,200 bytes lost in 0.3 s
+-- ---- whole reports
 
+-- 2 Mbit/s estimated, 1.5 acknowledged
 abbrev told : LossController
 told = Setters.setAcknowledgedBitrate (estimated 0x413E848000000000) (Rate.rate (bits 0x4136E36000000000)) .controller
 
-abbrev afterReport : LossController → List ℕ → List ℕ → List ℕ → LossController
-afterReport c times sizes flags = Report.updateBandwidthEstimate c times sizes flags (Rate.rate (bits 0x4146E36000000000)) .controller
+abbrev afterReport : ℕ → LossController → List ℕ → List ℕ → List ℕ → LossController
+afterReport delay c times sizes flags = Report.updateBandwidthEstimate c times sizes flags (Rate.rate (bits delay)) .controller
 
--- the state is Decreasing, and the ceiling is published
+-- 3 Mbit/s from the delay controller, 9,000 of 70,200 bytes lost in 0.3 s: Decreasing, and the ceiling is published.
+-- 8,200 bit/s estimated and from the delay controller, 150 of 1,000 bytes lost in 1 s: Decreasing, and a twentieth less is published, where the
+-- Rust's grouping of the bias would keep it (examples/grouping_keeps_8200_bit.txt, Q-9)
 decreasing :
-    line (afterReport (afterReport told (0 ∷ []) (1200 ∷ []) (0 ∷ [])) (300000000 ∷ 300000001 ∷ []) (60000 ∷ 9000 ∷ []) (0 ∷ 1 ∷ [])) ≡
+    line (afterReport 0x4146E36000000000 (afterReport 0x4146E36000000000 told (0 ∷ []) (1200 ∷ []) (0 ∷ []))
+    (300000000 ∷ 300000001 ∷ []) (60000 ∷ 9000 ∷ []) (0 ∷ 1 ∷ [])) ≡
     2 ∷ 4580551374841200862 ∷ 1 ∷ 4698242737114942079 ∷ []
+    × line (afterReport 0x40C0040000000000 (afterReport 0x40C0040000000000 (estimated 0x40C0040000000000) (0 ∷ []) (850 ∷ []) (0 ∷ []))
+    (1000000000 ∷ []) (150 ∷ []) (1 ∷ [])) ≡
+    2 ∷ 4584625288427029704 ∷ 1 ∷ 4665287210281467904 ∷ []
 unfolding line Bias.adjusted Bias.bias Feasible.upperBound Feasible.feasible Newton.safe Newton.addDerivatives Newton.derivatives Newton.newton
     Objective.addTerms Objective.objective Probability.congested Probability.probability Ln.logarithmOfBits Ln.logarithm Power.powerSteps Power.power
     Power.weight Bound.atMost Bound.capacity Bound.inWindow Bound.acceleration Bound.upperBound Candidate.scaled Candidate.above Candidate.bandwidths
@@ -163,4 +170,4 @@ unfolding line Bias.adjusted Bias.bias Feasible.upperBound Feasible.feasible New
     Report.updateBandwidthEstimate Setters.rateRefusal Setters.setBandwidthEstimate Setters.setAcknowledgedBitrate columnsRefusal packets
     packetRefusal addPacket summaryOf withObservations withEstimator withInputs maximum minimum signBit add div eq inFloat isNan le lt mul ofBits
     ofInt sub toBits Rattle.float.specs.Rust.magnitude
-decreasing = refl
+decreasing = (refl, refl)

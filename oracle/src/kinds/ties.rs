@@ -8,6 +8,16 @@ use crate::tie::{best, text, Line, Tie};
 
 const ARGUMENT_TIES: u64 = 12;
 
+/// Floats whose logarithm is rounded otherwise if one of its steps is fused or regrouped; random
+/// floats seldom show the step at L2 or at L3, for which the first two stand.
+const ARGUMENTS: [f64; 5] = [
+    f64::from_bits(0x3FF6_6563_A675_0A2A),
+    f64::from_bits(0x3FF6_7E03_E3B4_3FED),
+    f64::from_bits(0x4003_6164_1FF5_67C9),
+    f64::from_bits(0x4002_7250_0545_8065),
+    f64::from_bits(0x4006_265F_F80F_C25A),
+];
+
 pub fn ties(random: &mut Random, list: &mut List) {
     for turn in 0..8 {
         tie(random, list, (1 + 10 * turn) * SECOND);
@@ -20,15 +30,14 @@ pub fn tie(random: &mut Random, list: &mut List, start: u64) {
     play(random, list, &tie);
 }
 
-/// Choices in which 1 + rate, of which the logarithm is taken, is the float whose bits are the seed: the
-/// rate is the acknowledged one, and the estimate is bisected.
-pub fn argument(seed: u64, list: &mut List) {
-    let mut random = Random::new(seed);
-    let rate = f64::from_bits(seed) - 1.0;
+/// Choices in which 1 + rate, of which the logarithm is taken, is one of these floats: the rate is the
+/// acknowledged one, and the estimate is bisected.
+pub fn argument(random: &mut Random, list: &mut List) {
+    let rate = random.pick(&ARGUMENTS) - 1.0;
     for turn in 0..ARGUMENT_TIES {
         let start = (1 + 20_000 * turn) * SECOND;
-        let tie = Tie::at_rate(&mut random, rate, start);
-        play(&mut random, list, &tie);
+        let tie = Tie::at_rate(random, rate, start);
+        play(random, list, &tie);
         // DelayBased again, for the next one.
         for time in [start + 10_000 * SECOND, start + 10_001 * SECOND] {
             list.packet(time, false, 1);
