@@ -15,6 +15,10 @@ controller as call lists. Line reader and queue are no part of these, so that th
 
 Usage: oracle/mutants.py --search TRIES WORDS. Prints, for each mutant whose name has WORDS, the first
 list of the generator's kind 'near' that tells it, among TRIES ties.
+
+Usage: oracle/mutants.py --seeds KIND FIRST LAST [WORDS]. Prints, for each of these seeds of a kind of
+the generator, which mutants whose name has WORDS its list tells, and at the end those that none does:
+what to choose the seeds of oracle/sample/lists.txt by.
 """
 
 import concurrent.futures
@@ -24,6 +28,7 @@ import pathlib
 import shutil
 import subprocess
 import sys
+import tempfile
 
 ROOT = pathlib.Path(__file__).resolve().parent.parent
 ORACLE = ROOT / "oracle"
@@ -236,6 +241,37 @@ def search(tries, words):
     return 0
 
 
+def answer(calls):
+    """Writes the oracle's answers beside a list."""
+    with open(calls, "rb") as stdin, open(calls.with_suffix(".answers"), "wb") as stdout:
+        subprocess.run([OUT.parent / "answer-2"], stdin=stdin, stdout=stdout, check=True)
+
+
+def seeds(kind, first, last, words=""):
+    mutants = [mutant for mutant in read_mutants() if words in mutant["name"] and not mutant["stream"]]
+    assert mutants, "no mutants"
+
+    def told(seed):
+        calls = pathlib.Path(directory) / f"{seed}.calls"
+        with open(calls, "wb") as stdout:
+            subprocess.run([OUT.parent / "generate-2", kind, str(seed)], stdout=stdout, check=True)
+        answer(calls)
+        return [mutant["name"] for mutant, program in zip(mutants, programs) if first_difference(
+            program, calls, calls.with_suffix(".answers"), mutant.get("chosen", "")) is not None]
+
+    untold = {mutant["name"] for mutant in mutants}
+    with tempfile.TemporaryDirectory() as directory, \
+            concurrent.futures.ThreadPoolExecutor(os.cpu_count()) as pool:
+        programs = list(pool.map(build, mutants))
+        numbers = range(int(first), int(last) + 1)
+        for seed, names in zip(numbers, pool.map(told, numbers)):
+            untold.difference_update(names)
+            if names:
+                print(f"{kind} {seed}: {', '.join(names)}", flush=True)
+    print("told by none:", ", ".join(sorted(untold)) or "no mutant")
+    return 0
+
+
 def stored_calls():
     """A directory with the stored calls of the controller as call lists, and the oracle's answers.
     The reports of packets that no list can queue are left out; they are refused."""
@@ -253,8 +289,7 @@ def stored_calls():
     for number, lines in enumerate(lists):
         calls = directory / f"{number}.calls"
         calls.write_text("".join(lines))
-        with open(calls, "rb") as stdin, open(calls.with_suffix(".answers"), "wb") as stdout:
-            subprocess.run([ROOT / "target/oracle/answer-2"], stdin=stdin, stdout=stdout, check=True)
+        answer(calls)
     return directory
 
 
@@ -265,6 +300,8 @@ def main():
         return search(*sys.argv[2:])
     for program in ("answer", "generate"):
         subprocess.run([ORACLE / "build.sh", program], check=True, stdout=subprocess.DEVNULL)
+    if sys.argv[1:2] == ["--seeds"]:
+        return seeds(*sys.argv[2:])
     if sys.argv[1:2] == ["--calls"]:
         directory = stored_calls()
     else:
