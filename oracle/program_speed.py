@@ -1,9 +1,13 @@
 #!/usr/bin/env python3
-"""Times the program beside the oracle's on the same list, turn and turn about.
+"""Times the program beside the oracle's on the same lists, turn and turn about.
 
-Usage: oracle/program_speed.py [RUNS [LINES]]. Prints the best time of each and their ratio, for LINES lines
-of the realistic stream, and exits with 1 where the program is the slower one or answers otherwise. Needs
-rustc, and asks 'rt check answer' for the program.
+Usage: oracle/program_speed.py [--beside FILE] [RUNS [LINES]]
+
+Prints the best time of RUNS (default 15) of each and its ratio to the oracle's, for LINES lines (default
+1,500,000) of the stream realistic and of the stream changing, whose every answer changes. FILE is another
+program to time beside the two, an earlier build for instance. Exits with 1 where a program answers otherwise than
+the oracle, or the program is the slower one on the realistic list. Needs rustc, and asks 'rt check answer' for the
+program.
 """
 
 import subprocess
@@ -21,15 +25,15 @@ def built(name):
     return ROOT / made.stdout.strip()
 
 
-def write_list(lines, path):
+def write_list(name, lines, path):
     """The first lines of the stream."""
     with subprocess.Popen(
-        [built("generate"), "stream", "realistic"], stdout=subprocess.PIPE, stderr=subprocess.DEVNULL
+        [built("generate"), "stream", name], stdout=subprocess.PIPE, stderr=subprocess.DEVNULL
     ) as stream, open(path, "wb") as out:
         for number in range(lines):
             line = stream.stdout.readline()
             if not line:
-                sys.exit(f"the stream has only {number} lines")
+                sys.exit(f"the stream {name} has only {number} lines")
             out.write(line)
         stream.kill()
 
@@ -48,19 +52,39 @@ def seconds(program, path):
         return time.perf_counter() - start
 
 
-def main():
-    runs, lines = [*map(int, sys.argv[1:]), *(15, 1_500_000)[len(sys.argv) - 1 :]]
-    program = ROOT / "target/bin/answer"
-    subprocess.run(["rt", "check", "answer"], cwd=ROOT, check=True, stdout=subprocess.DEVNULL)
-    oracle = built("answer")
+def measure(stream, programs, runs, lines):
+    """The best time of each program on the stream, printed beside its ratio to the oracle's; the ratios."""
     with tempfile.NamedTemporaryFile() as listed:
-        write_list(lines, listed.name)
-        if answers(program, listed.name) != answers(oracle, listed.name):
-            sys.exit("the program answers otherwise than the oracle")
-        times = [(seconds(program, listed.name), seconds(oracle, listed.name)) for _ in range(runs)]
-    ours, theirs = (min(column) for column in zip(*times))
-    print(f"{lines} lines, best of {runs}: program {ours:.3f} s, oracle {theirs:.3f} s, ratio {ours / theirs:.3f}")
-    return 1 if ours > theirs else 0
+        write_list(stream, lines, listed.name)
+        expected = answers(programs["oracle"], listed.name)
+        for name, program in programs.items():
+            if answers(program, listed.name) != expected:
+                sys.exit(f"{stream}: {name} answers otherwise than the oracle")
+        times = [[seconds(program, listed.name) for program in programs.values()] for _ in range(runs)]
+    best = dict(zip(programs, map(min, zip(*times))))
+    ratios = {name: taken / best["oracle"] for name, taken in best.items()}
+    figures = ", ".join(f"{name} {best[name]:.3f} s ({ratios[name]:.3f})" for name in best)
+    print(f"{stream}, {lines} lines, best of {runs}: {figures}", flush=True)
+    return ratios
+
+
+def main():
+    words = sys.argv[1:]
+    if words in (["--help"], ["-h"]):
+        print(__doc__)
+        return 0
+    programs = {"program": ROOT / "target/bin/answer", "oracle": None}
+    if words[:1] == ["--beside"] and len(words) > 1:
+        programs["beside"] = Path(words[1]).resolve()
+        words = words[2:]
+    if len(words) > 2 or not all(word.isdecimal() for word in words):
+        print(__doc__, file=sys.stderr)
+        return 2
+    runs, lines = [*map(int, words), *(15, 1_500_000)[len(words) :]]
+    subprocess.run(["rt", "check", "answer"], cwd=ROOT, check=True, stdout=subprocess.DEVNULL)
+    programs["oracle"] = built("answer")
+    ratios = {stream: measure(stream, programs, runs, lines) for stream in ("realistic", "changing")}
+    return 1 if ratios["realistic"]["program"] > 1 else 0
 
 
 if __name__ == "__main__":

@@ -2,6 +2,8 @@
 
 use std::io::{self, Write};
 
+use crate::random::Random;
+
 type Stream = fn(&mut dyn Write) -> io::Result<()>;
 
 pub const STREAMS: &[(&str, &str, Stream)] = &[
@@ -10,6 +12,11 @@ pub const STREAMS: &[(&str, &str, Stream)] = &[
     ("count", "10^9 observations and one more (2 x 10^9 lines)", count),
     ("infinity", "zero bytes drive the rate to infinity (68,000 lines)", infinity),
     ("realistic", "dense lists end to end, two million lines", realistic),
+    (
+        "changing",
+        "estimates, each another rate, so that every answer changes, two million lines",
+        changing,
+    ),
 ];
 
 pub fn known(name: &str) -> bool {
@@ -135,6 +142,14 @@ fn realistic(out: &mut dyn Write) -> io::Result<()> {
         if lines >= 2_000_000 {
             break;
         }
+    }
+    Ok(())
+}
+
+fn changing(out: &mut dyn Write) -> io::Result<()> {
+    let mut random = Random::new(1);
+    for _ in 0..2_000_000 {
+        estimate(out, 1e5 + 1e8 * random.fraction())?;
     }
     Ok(())
 }

@@ -35,8 +35,10 @@ unfolding columnOf leadingSpaces digitsOf isDigit more afterZero
 columns = refl
 
 -- the largest number, 18446744073709551615, and the next, 18446744073709551616
-largest :
-    columnOf (49 ∷ 56 ∷ 52 ∷ 52 ∷ 54 ∷ 55 ∷ 52 ∷ 52 ∷ 48 ∷ 55 ∷ 51 ∷ 55 ∷ 48 ∷ 57 ∷ 53 ∷ 53 ∷ 49 ∷ 54 ∷ 49 ∷ 53 ∷ []) ≡ Value (2 ^ 64 - 1)
+abbrev largest-end : List ℕ
+largest-end = 56 ∷ 52 ∷ 52 ∷ 54 ∷ 55 ∷ 52 ∷ 52 ∷ 48 ∷ 55 ∷ 51 ∷ 55 ∷ 48 ∷ 57 ∷ 53 ∷ 53 ∷ 49 ∷ 54 ∷ 49 ∷ 53 ∷ []
+
+largest : columnOf (49 ∷ largest-end) ≡ Value (2 ^ 64 - 1)
 unfolding columnOf leadingSpaces digitsOf isDigit more afterZero
 largest = refl
 
@@ -50,6 +52,13 @@ written :
     map (column 2) (0 ∷ 7 ∷ 10 ∷ 100 ∷ []) ≡ (32 ∷ 48 ∷ []) ∷ (32 ∷ 55 ∷ []) ∷ (49 ∷ 48 ∷ []) ∷ (48 ∷ 48 ∷ []) ∷ []
 unfolding column
 written = refl
+
+-- 105 in two places, 0 in none and in three, and the largest number in 19 places, in 20 and in 22
+placed :
+    column 2 105 ∷ column 0 0 ∷ column 3 0 ∷ map (λ w. column w (2 ^ 64 - 1)) (19 ∷ 20 ∷ 22 ∷ []) ≡
+    (48 ∷ 53 ∷ []) ∷ [] ∷ (32 ∷ 32 ∷ 48 ∷ []) ∷ largest-end ∷ (49 ∷ largest-end) ∷ (32 ∷ 32 ∷ 49 ∷ largest-end) ∷ []
+unfolding column
+placed = refl
 
 -- ---- lines
 

@@ -1,10 +1,11 @@
 // A call list's lines and columns: what a line says, and a number written in a column.
 ghost use mathlib.Core.Path.{_≡_};
 ghost use mathlib.Core.Bool.{true};
-ghost use Prim.Native.Nat.{_≤_};
+ghost use Prim.Native.Nat.{_*_, _/_, _%_, _≤_, _<_};
 ghost use lib.ListN.{length};
 ghost use Rattle.packets.specs.Summary.{largestPacket};
 ghost use Rattle.call_line.specs.Column.{isDigit, digitsOf, column};
+ghost use Rattle.call_line.specs.Digits.{Digits};
 ghost use Rattle.call_line.specs.Line.{alone, flagged, allowed, fieldsOf, inTable, rateCode, unlessRefused, alrOf, capacityOf, packetOf};
 ghost use Rattle.call_line.specs.Line.{reportOf, callOf, lineOf};
 use bandwidth::Bitrate;
@@ -299,22 +300,107 @@ pub fn read_line(line: &[u8]) -> Line
     }
 }
 
+// The powers of ten that a u64 holds
+const POWERS: [u64; MOST_DIGITS] = [
+    1,
+    10,
+    100,
+    1_000,
+    10_000,
+    100_000,
+    1_000_000,
+    10_000_000,
+    100_000_000,
+    1_000_000_000,
+    10_000_000_000,
+    100_000_000_000,
+    1_000_000_000_000,
+    10_000_000_000_000,
+    100_000_000_000_000,
+    1_000_000_000_000_000,
+    10_000_000_000_000_000,
+    100_000_000_000_000_000,
+    1_000_000_000_000_000_000,
+    10_000_000_000_000_000_000,
+];
+
+// How often a power was subtracted, and what is left.
+struct Subtracted {
+    value: u8,
+    rest: u64,
+}
+
+fn digit(rest: u64, power: u64) -> Subtracted
+    requires { ⌜ (0 < power) × (rest < 10 * power) ⌝ }
+    ensures { λ r. ⌜ (r .value ≡ rest / power) × (r .rest ≡ rest % power) × (r .value ≤ 9) ⌝ }
+{
+    let mut value = 0;
+    let mut rest = rest;
+    while rest >= power {
+        rest -= power;
+        value += 1;
+    }
+    Subtracted { value, rest }
+}
+
+// The digits of n by their powers, with zeros above its first. All twenty places are gone through, so
+// that each power is a constant to the compiler.
+fn digits(n: u64) -> [u8; MOST_DIGITS]
+    ensures { λ r. ⌜ Digits n r ⌝ }
+{
+    let powers = POWERS;
+    let mut digits = [0u8; MOST_DIGITS];
+    let mut rest = n;
+    let mut k = MOST_DIGITS;
+    while k > 0 {
+        k -= 1;
+        let taken = digit(rest, powers[k]);
+        rest = taken.rest;
+        digits[k] = taken.value;
+    }
+    digits
+}
+
+// Fills the column with n, which is below ten. The spaces go from the end: forwards the compiler makes
+// a call of C's memset of them, which is dear for a column of two.
+fn write_digit(out: &mut [u8], n: u64)
+    requires { ⌜ n < 10 ⌝ }
+    ensures { λ _. ⌜ now (out .exit) ≡ column (length (now (out .entry))) n ⌝ }
+{
+    if out.len() == 0 {
+        return;
+    }
+    let mut i = out.len() - 1;
+    out[i] = b'0' + n as u8;
+    while i > 0 {
+        i -= 1;
+        out[i] = b' ';
+    }
+}
+
 // Fills the column with n, right-justified with spaces. Of a number with more digits than the column
 // has places, the last are written.
 pub fn write_number(out: &mut [u8], n: u64)
     ensures { λ _. ⌜ now (out .exit) ≡ column (length (now (out .entry))) n ⌝ }
 {
-    let mut i = out.len();
-    let mut rest = n;
-    let mut blank = false;
-    while i > 0 {
-        i -= 1;
-        if blank {
-            out[i] = b' ';
-        } else {
-            out[i] = b'0' + (rest % 10) as u8;
-            blank = rest < 10;
-            rest /= 10;
-        }
+    // Most of an answer's columns: no power is asked.
+    if n < 10 {
+        write_digit(out, n);
+        return;
+    }
+    let digits = digits(n);
+    // A digit that finds no room counts too: 105 in two places is 05.
+    let mut count = MOST_DIGITS;
+    while digits[count - 1] == 0 {
+        count -= 1;
+    }
+    let mut i = 0;
+    while i + count < out.len() {
+        out[i] = b' ';
+        i += 1;
+    }
+    while i < out.len() {
+        out[i] = b'0' + digits[out.len() - 1 - i];
+        i += 1;
     }
 }

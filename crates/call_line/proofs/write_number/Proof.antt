@@ -1,70 +1,159 @@
--- `write_number` meets its contract: what is ahead, and the places behind, are the column. Assumes nothing.
-use Prim.Native.Nat.{_≤_}
+-- `write_number` meets its contract: how many digits the number has, the spaces before them, and they. Assumes nothing.
+use Prim.Native.Nat.{ℕ, _+_, _-_, _/_, _%_, _^_, _≤_, _<_}
 use mathlib.Core.Path.{_≡_, refl, sym, _∙_}
 use native.Mathlib.Omega.{arith}
 use borrow.Author.Needs.{needs}
-use mathlib.Core.List.{_++_}
-use lib.ListN.{length, drop, length-set}
+use lib.ListN.{length, getD, length-set}
 use Rattle.call_line.specs.Column.{column}
-use Rattle.call_line.proofs.Writing.{ahead, space-more, digit-more, none-written, all-written}
+use Rattle.call_line.proofs.Writing.{below-power, power-within, some-places, digit-reaches, zero-below, Written, none-written, space-placed}
+use Rattle.call_line.proofs.Writing.{digit-placed, all-written}
 use Rattle.call_line.proofs.write_number.Statement.{statement}
 use Rattle.call_line.proofs.write_number.Tie as tie
 
 abbrev Inv-loop : tie.InvT-loop
-Inv-loop out₀ n i₀ rest₀ blank₀ out i rest blank =
-    (i ≤ length out₀) × (length out ≡ length out₀) × (column (length out₀) n ≡ ahead blank i rest ++ drop i out)
+Inv-loop out n digits count₀ count = (0 < count) × (count ≤ 20) × (n < 10 ^ count)
 
 abbrev μ-loop : tie.MeasureT-loop
-μ-loop out₀ n i₀ rest₀ blank₀ out i rest blank = i
+μ-loop out n digits count₀ count = count
 
-loop-holds : tie.Need-loop-holds Inv-loop μ-loop
-loop-holds c = (omega arith, refl, none-written (c .args .out .now) (c .args .n))
+abbrev Inv-loop2 : tie.InvT-loop2
+Inv-loop2 out₀ n digits count i₀ out i = (i ≤ length out₀) × (length out ≡ length out₀) × Written out n i
 
-sub-i : tie.Need-sub-i Inv-loop μ-loop
-sub-i c = search needs
+abbrev μ-loop2 : tie.MeasureT-loop2
+μ-loop2 out₀ n digits count i₀ out i = length out₀ - i
 
-slice-write-out : tie.Need-slice-write-out Inv-loop μ-loop
-slice-write-out c = search needs
+abbrev Inv-loop3 : tie.InvT-loop3
+Inv-loop3 out₀ n digits count i₀ out i =
+    (i ≤ length out₀) × (length out₀ ≤ i + count) × (length out ≡ length out₀) × Written out n i
 
-loop-less : tie.Need-loop-less Inv-loop μ-loop
-loop-less c = search needs
+abbrev μ-loop3 : tie.MeasureT-loop3
+μ-loop3 out₀ n digits count i₀ out i = length out₀ - i
 
-loop-again : tie.Need-loop-again Inv-loop μ-loop
-loop-again c =
-    let l = c .before .before in (
-      omega arith,
-      simp length-set (l .loop .inv .1),
-      l .loop .inv .2 ∙ space-more (l .loop .out) (l .loop .i) (l .loop .rest) (l .loop .blank) (omega arith) (omega arith) (c .if1 .taken),
-    )
+-- ---- the number, and its digit at a place
 
-cast-out : tie.Need-cast-out Inv-loop μ-loop
-cast-out c = search needs
+abbrev Counted : Type 0
+Counted = tie.At-loop Inv-loop μ-loop Inv-loop2 μ-loop2 Inv-loop3 μ-loop3
 
-add-out : tie.Need-add-out Inv-loop μ-loop
-add-out c = search needs
+abbrev number : Counted → ℕ
+number l = l .before .before .before .before .args .n
 
-slice-write-out-2 : tie.Need-slice-write-out-2 Inv-loop μ-loop
-slice-write-out-2 c = search needs
+abbrev Digit : Type 0
+Digit = tie.In-loop3 Inv-loop μ-loop Inv-loop2 μ-loop2 Inv-loop3 μ-loop3
 
-loop-less-2 : tie.Need-loop-less-2 Inv-loop μ-loop
-loop-less-2 c = search needs
+abbrev counted : Digit → Counted
+counted c = c .before .before .before .before .before
 
-loop-again-2 : tie.Need-loop-again-2 Inv-loop μ-loop
-loop-again-2 c =
-    let l = c .before .before in (
-      omega arith,
-      simp length-set (l .loop .inv .1),
-      l .loop .inv .2 ∙ digit-more (l .loop .out) (l .loop .i) (l .loop .rest) (l .loop .blank) (omega arith) (omega arith) (c .if1 .left),
-    )
+abbrev place : Digit → ℕ
+place c = length (c .before .loop3 .out) - 1 - c .before .loop3 .i
 
-same-length : tie.Need-same-length Inv-loop μ-loop
+digit-at : (c : Digit) → getD (counted c .before .digits .result) (place c) 0 ≡ number (counted c) / 10 ^ place c % 10
+digit-at c = counted c .before .digits .ensures (place c) (omega arith)
+
+reaches : (c : Digit) → 10 ^ place c ≤ number (counted c)
+reaches c =
+    let k = counted c .loop .count in
+    let e = counted c .before .digits .ensures (k - 1) (omega arith) in
+    power-within (digit-reaches (number (counted c)) (k - 1) (λ z. c .before .before .before .before .loop-test .left (e ∙ z))) (omega arith)
+
+-- ---- the needs
+
+write-digit-requires :
+    tie.Need-write-digit-requires Inv-loop μ-loop Inv-loop2 μ-loop2 Inv-loop3 μ-loop3
+write-digit-requires c κs = search needs
+
+same-length : tie.Need-same-length Inv-loop μ-loop Inv-loop2 μ-loop2 Inv-loop3 μ-loop3
 same-length c = search needs
 
-returns : tie.Need-returns Inv-loop μ-loop
-returns c =
+returns : tie.Need-returns Inv-loop μ-loop Inv-loop2 μ-loop2 Inv-loop3 μ-loop3
+returns c = c .before .before .write-digit .ensures
+
+digits-requires : tie.Need-digits-requires Inv-loop μ-loop Inv-loop2 μ-loop2 Inv-loop3 μ-loop3
+digits-requires c κs = search needs
+
+loop-holds : tie.Need-loop-holds Inv-loop μ-loop Inv-loop2 μ-loop2 Inv-loop3 μ-loop3
+loop-holds c = (search needs, search needs, omega arith)
+
+sub-loop : tie.Need-sub-loop Inv-loop μ-loop Inv-loop2 μ-loop2 Inv-loop3 μ-loop3
+sub-loop c = search needs
+
+array-read-loop : tie.Need-array-read-loop Inv-loop μ-loop Inv-loop2 μ-loop2 Inv-loop3 μ-loop3
+array-read-loop c = search needs
+
+sub-count : tie.Need-sub-count Inv-loop μ-loop Inv-loop2 μ-loop2 Inv-loop3 μ-loop3
+sub-count c = search needs
+
+loop-less : tie.Need-loop-less Inv-loop μ-loop Inv-loop2 μ-loop2 Inv-loop3 μ-loop3
+loop-less c = search needs
+
+loop-again : tie.Need-loop-again Inv-loop μ-loop Inv-loop2 μ-loop2 Inv-loop3 μ-loop3
+loop-again c =
     let l = c .before in
-    let z : l .loop .i ≡ 0 = omega arith in
-    sym (l .loop .inv .2 ∙ rw z (all-written (l .loop .blank) (l .loop .out) (l .loop .rest)))
+    let k = l .loop .count in
+    let e = l .before .digits .ensures (k - 1) (omega arith) in
+    let h = zero-below (number l) k (l .loop .inv .0) (l .loop .inv .2) (sym e ∙ c .loop-test .taken) in
+    (some-places (number l) (k - 1) (omega arith) h, omega arith, h)
+
+loop2-holds : tie.Need-loop2-holds Inv-loop μ-loop Inv-loop2 μ-loop2 Inv-loop3 μ-loop3
+loop2-holds c =
+    let a = c .before .before .before .before .before .args in
+    (search needs, refl, none-written (a .out .now) (a .n))
+
+add-loop2 : tie.Need-add-loop2 Inv-loop μ-loop Inv-loop2 μ-loop2 Inv-loop3 μ-loop3
+add-loop2 c = search needs
+
+slice-write-out : tie.Need-slice-write-out Inv-loop μ-loop Inv-loop2 μ-loop2 Inv-loop3 μ-loop3
+slice-write-out c = search needs
+
+add-i : tie.Need-add-i Inv-loop μ-loop Inv-loop2 μ-loop2 Inv-loop3 μ-loop3
+add-i c = search needs
+
+loop2-less : tie.Need-loop2-less Inv-loop μ-loop Inv-loop2 μ-loop2 Inv-loop3 μ-loop3
+loop2-less c = search needs
+
+loop2-again : tie.Need-loop2-again Inv-loop μ-loop Inv-loop2 μ-loop2 Inv-loop3 μ-loop3
+loop2-again c =
+    let l = c .before .loop2 in
+    let k = c .before .before .before in
+    let h : number k < 10 ^ (length (l .out) - 1 - l .i) = below-power (k .loop .inv .2) (omega arith) in
+    (omega arith, simp length-set (l .inv .1), space-placed (l .out) (number k) (l .i) (omega arith) (l .inv .2) (omega arith) h)
+
+loop3-holds : tie.Need-loop3-holds Inv-loop μ-loop Inv-loop2 μ-loop2 Inv-loop3 μ-loop3
+loop3-holds c = (omega arith, omega arith, refl, c .before .loop2 .inv .2)
+
+sub-out : tie.Need-sub-out Inv-loop μ-loop Inv-loop2 μ-loop2 Inv-loop3 μ-loop3
+sub-out c = search needs
+
+sub-out-2 : tie.Need-sub-out-2 Inv-loop μ-loop Inv-loop2 μ-loop2 Inv-loop3 μ-loop3
+sub-out-2 c = search needs
+
+array-read-out : tie.Need-array-read-out Inv-loop μ-loop Inv-loop2 μ-loop2 Inv-loop3 μ-loop3
+array-read-out c = search needs
+
+add-out : tie.Need-add-out Inv-loop μ-loop Inv-loop2 μ-loop2 Inv-loop3 μ-loop3
+add-out c = omega (arith, digit-at c)
+
+slice-write-out-2 : tie.Need-slice-write-out-2 Inv-loop μ-loop Inv-loop2 μ-loop2 Inv-loop3 μ-loop3
+slice-write-out-2 c = search needs
+
+add-i-2 : tie.Need-add-i-2 Inv-loop μ-loop Inv-loop2 μ-loop2 Inv-loop3 μ-loop3
+add-i-2 c = search needs
+
+loop3-less : tie.Need-loop3-less Inv-loop μ-loop Inv-loop2 μ-loop2 Inv-loop3 μ-loop3
+loop3-less c = search needs
+
+loop3-again : tie.Need-loop3-again Inv-loop μ-loop Inv-loop2 μ-loop2 Inv-loop3 μ-loop3
+loop3-again c =
+    let l = c .before .loop3 in
+    (omega arith, omega arith, simp length-set (l .inv .2), digit-placed (l .out) _ (l .i) (omega arith) (l .inv .3) _ (digit-at c) (λ p. reaches c))
+
+same-length-2 : tie.Need-same-length-2 Inv-loop μ-loop Inv-loop2 μ-loop2 Inv-loop3 μ-loop3
+same-length-2 c = search needs
+
+returns-2 : tie.Need-returns-2 Inv-loop μ-loop Inv-loop2 μ-loop2 Inv-loop3 μ-loop3
+returns-2 c =
+    let l = c .before .loop3 in
+    let e = l .inv .2 ∙ c .before .before .before .loop2 .inv .1 in
+    rw (← e) (all-written (l .out) (number (c .before .before .before .before .before)) (l .i) (omega arith) (l .inv .3))
 
 pub write-number-spec : {M : Type 1} → statement M
 write-number-spec =
@@ -72,15 +161,34 @@ write-number-spec =
     (tie.spec
     Inv-loop
     μ-loop
+    Inv-loop2
+    μ-loop2
+    Inv-loop3
+    μ-loop3
+    write-digit-requires
+    same-length
+    returns
+    digits-requires
     loop-holds
-    sub-i
-    slice-write-out
+    sub-loop
+    array-read-loop
+    sub-count
     loop-less
     loop-again
-    cast-out
+    loop2-holds
+    add-loop2
+    slice-write-out
+    add-i
+    loop2-less
+    loop2-again
+    loop3-holds
+    sub-out
+    sub-out-2
+    array-read-out
     add-out
     slice-write-out-2
-    loop-less-2
-    loop-again-2
-    same-length
-    returns)
+    add-i-2
+    loop3-less
+    loop3-again
+    same-length-2
+    returns-2)
