@@ -81,6 +81,10 @@ def main():
         print(__doc__, file=sys.stderr)
         return 2
     runs, lines = [*map(int, words), *(15, 1_500_000)[len(words) :]]
+    if runs < 1 or lines < 1:
+        sys.exit("RUNS and LINES are 1 or more")
+    if "beside" in programs and not programs["beside"].is_file():
+        sys.exit(f"there is no file {programs['beside']}")
     subprocess.run(["rt", "check", "answer"], cwd=ROOT, check=True, stdout=subprocess.DEVNULL)
     programs["oracle"] = built("answer")
     ratios = {stream: measure(stream, programs, runs, lines) for stream in ("realistic", "changing")}

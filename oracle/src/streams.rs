@@ -149,7 +149,7 @@ fn realistic(out: &mut dyn Write) -> io::Result<()> {
 fn changing(out: &mut dyn Write) -> io::Result<()> {
     let mut random = Random::new(1);
     for _ in 0..2_000_000 {
-        estimate(out, 1e5 + 1e8 * random.fraction())?;
+        estimate(out, 1e5 + 9.99e7 * random.fraction())?;
     }
     Ok(())
 }

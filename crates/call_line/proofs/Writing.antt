@@ -1,9 +1,10 @@
--- Writing a column from its front: the laws that `write_number` cites. Assumes nothing.
+-- Writing a column: the laws that `digits`, `write_digit` and `write_number` cite. Assumes nothing.
 use Prim.Native.Nat.{ℕ, zero, suc, _+_, _-_, _*_, _/_, _%_, _^_, _≤_, _<_}
 use mathlib.Core.Path.{_≡_, refl, sym, ap, _∙_}
 use mathlib.Core.Bool.{Bool, true, false, cond}
 use mathlib.Core.List.{List, [], _∷_, _++_, append-assoc, append-nil}
-use native.Mathlib.Nat.{div-one, div-eq-of-lt, div-div-eq-div-mul, div-add-mod, mod-lt, mod-eq-of-lt, pow-succ', pow-le-pow-right, le-trans, lt-of-lt-of-le}
+use native.Mathlib.Nat.{div-one, div-eq-of-lt, div-div-eq-div-mul, div-add-mod, mod-lt, mod-eq-of-lt, pow-suc, pow-succ', one-le-pow, pow-le-pow-right}
+use native.Mathlib.Nat.{le-trans, lt-of-lt-of-le}
 use native.Mathlib.Decide.{decLt}
 use native.Mathlib.Numerals.{add-one, sub-one, unary-clauses}
 use native.Mathlib.Omega.{arith}
@@ -11,9 +12,10 @@ use borrow.Author.Tests.{lt-ltb, le-ltb}
 use lib.Arith.{mod-mul, digits-div, digits-mod}
 use lib.Dec.{ltb, lit<}
 use lib.ListN.{length, getD, take, drop, set, replicate, length-set}
-use lib.Seq.{take-suc-set, take-length, drop-cons, drop-set-lt, drop-length, getD-set-same, getD-set-other}
+use lib.Seq.{take-suc-set, take-length, drop-cons, drop-set-lt, getD-set-same}
 use Rattle.logarithm.proofs.Table.{values, entry}
 use Rattle.call_line.specs.Column.{asciiSpace, asciiZero, column}
+use Rattle.call_line.specs.Digits.{lastDigits}
 
 -- ---- powers of ten
 
@@ -22,8 +24,7 @@ pub power-at : {table : List ℕ} → table ≡ values (λ k. 10 ^ k) 20 → (k 
 power-at e k h = entry (λ k. 10 ^ k) _ 20 k 0 e h
 
 pub power-pos : (k : ℕ) → 0 < 10 ^ k
-power-pos zero = omega arith
-power-pos (suc k) = omega (arith, power-pos k)
+power-pos k = one-le-pow k 10 (lit< tt)
 
 -- the powers rise
 pub below-power : {n k l : ℕ} → n < 10 ^ k → k ≤ l → n < 10 ^ l
@@ -38,7 +39,7 @@ some-places n (suc k) l h = omega arith
 
 -- ---- the digits of a number
 
--- what is left of n below a power: it is below ten of the next one, and that one's digit and rest are n's
+-- what is left of n below 10 ^ k: less than ten times the power before, whose digit and rest are n's
 pub parted :
     (n k : ℕ) → 0 < k
     → (n % 10 ^ k < 10 * 10 ^ (k - 1)) × (n % 10 ^ k / 10 ^ (k - 1) ≡ n / 10 ^ (k - 1) % 10) × (n % 10 ^ k % 10 ^ (k - 1) ≡ n % 10 ^ (k - 1))
@@ -49,17 +50,34 @@ parted n (suc k) p =
     let e = mod-mul n {m = 10} (lit< tt) (power-pos k) in
     rw (sub-one, pow-succ') (mod-lt n (omega (arith, power-pos k)), rw e (digits-div q l), rw e (digits-mod q l))
 
--- the digits of n from the power k on
-abbrev pub DigitsFrom : ℕ → ℕ → List ℕ → Type 0
-DigitsFrom k n ds = (j : ℕ) → k ≤ j → j < 20 → getD ds j 0 ≡ n / 10 ^ j % 10
+next-power : (n k : ℕ) → n / 10 ^ suc k ≡ n / 10 / 10 ^ k
+next-power n k = rw (pow-succ', div-div-eq-div-mul)
 
+pub digit-of : (w n k : ℕ) → k < w → getD (lastDigits w n) k 0 ≡ n / 10 ^ k % 10
+unfolding lastDigits
+digit-of zero n k h = absurd (omega arith)
+digit-of (suc w) n zero h = rw div-one
+digit-of (suc w) n (suc k) h = rw next-power (digit-of w (n / 10) k (omega arith))
+
+-- the place i is written
+drop-set : (s : List ℕ) (i d : ℕ) → i < length s → drop i (set s i d) ≡ d ∷ drop (suc i) s
+drop-set s i d h =
+    let g : i < length (set s i d) = simp length-set h in
+    rw (drop-cons (set s i d) i 0 g, getD-set-same s i d 0 h, drop-set-lt (suc i) s i d (omega arith))
+
+-- the digits from the power k on are n's, and with one more those from the power before
 pub one-digit-more :
-    (n k : ℕ) (ds : List ℕ) (d : ℕ) → length ds ≡ 20 → k < 20 → d ≡ n / 10 ^ k % 10 → DigitsFrom (k + 1) n ds → DigitsFrom k n (set ds k d)
-one-digit-more n k ds d e l h from j u v = pick (decLt k j)
-  where
-    pick : Dec (k < j) → getD (set ds k d) j 0 ≡ n / 10 ^ j % 10
-    pick (yes m) = rw (getD-set-other ds k j d 0 (λ q. omega arith)) (from j (omega arith) v)
-    pick (no m) = let q : j ≡ k = omega (arith, m) in rw (q, getD-set-same ds k d 0 (omega arith)) h
+    (n k : ℕ) (ds : List ℕ) (d : ℕ) → 0 < k → k ≤ 20 → length ds ≡ 20 → d ≡ n / 10 ^ (k - 1) % 10
+    → drop k ds ≡ lastDigits (20 - k) (n / 10 ^ k) → drop (k - 1) (set ds (k - 1) d) ≡ lastDigits (20 - (k - 1)) (n / 10 ^ (k - 1))
+unfolding lastDigits
+one-digit-more n zero ds d p l e h from = absurd (omega arith)
+one-digit-more n (suc k) ds d p l e h from =
+    let z : 20 - k ≡ suc (20 - suc k) = omega arith in
+    let f : n / 10 ^ suc k ≡ n / 10 ^ k / 10 = rw (pow-suc, div-div-eq-div-mul) in
+    rw (sub-one, drop-set ds k d (omega arith), z, from, f) (ap (λ (x : ℕ). x ∷ lastDigits (20 - suc k) (n / 10 ^ k / 10)) (rw sub-one at h))
+
+pub all-digits : (n k : ℕ) (ds : List ℕ) → k ≡ 0 → drop k ds ≡ lastDigits (20 - k) (n / 10 ^ k) → ds ≡ lastDigits 20 n
+all-digits n k ds e h = (rw e at h) ∙ ap (lastDigits 20) (div-one n)
 
 -- a digit that is not 0, and one that is
 pub digit-reaches : (n k : ℕ) → (n / 10 ^ k % 10 ≡ 0 → ⊥) → 10 ^ k ≤ n
@@ -92,7 +110,7 @@ last n = pick (ltb n 10)
     pick true = refl
     pick false = refl
 
--- n is below its power, or has a digit there
+-- the first of k + 1 places: a space where n is below 10 ^ k, and else its digit there
 space-first : (k n : ℕ) → 0 < k → n < 10 ^ k → column (suc k) n ≡ asciiSpace ∷ column k n
 space-first zero n l h = absurd (omega arith)
 space-first (suc k) n l h = pick (space-first k (n / 10)) (decLt n 10)
@@ -105,13 +123,11 @@ space-first (suc k) n l h = pick (space-first k (n / 10)) (decLt n 10)
         let g : 10 ≤ n = omega (arith, m) in
         rw (long (suc k) n g, long k n g, ih (some-places (n / 10) k (omega arith) (omega arith)) (omega arith))
 
-digit-first : (k n : ℕ) → (0 < k → 10 ^ k ≤ n) → column (suc k) n ≡ (asciiZero + n / 10 ^ k % 10) ∷ column k n
+digit-first : (k n : ℕ) → 10 ^ k ≤ n → column (suc k) n ≡ (asciiZero + n / 10 ^ k % 10) ∷ column k n
 digit-first zero n h = rw div-one (last n)
 digit-first (suc k) n h =
-    let p = h (omega arith) in
     let g : 10 ≤ n = omega (arith, power-pos k) in
-    let e : n / 10 ^ suc k ≡ n / 10 / 10 ^ k = rw (pow-succ', div-div-eq-div-mul) in
-    rw (long (suc k) n g, long k n g, e, digit-first k (n / 10) (λ l. omega arith))
+    rw (long (suc k) n g, long k n g, next-power, digit-first k (n / 10) (omega arith))
 
 -- ---- the places that are written
 
@@ -131,8 +147,7 @@ module _ (s : List ℕ) (n i : ℕ) (l : i < length s) (w : Written s n i) where
   space-placed p h = placed _ _ refl (space-first _ n p h)
 
   pub digit-placed :
-      (d : ℕ) → d ≡ n / 10 ^ (length s - 1 - i) % 10 → (0 < length s - 1 - i → 10 ^ (length s - 1 - i) ≤ n)
-      → Written (set s i (asciiZero + d)) n (i + 1)
+      (d : ℕ) → d ≡ n / 10 ^ (length s - 1 - i) % 10 → 10 ^ (length s - 1 - i) ≤ n → Written (set s i (asciiZero + d)) n (i + 1)
   digit-placed d e h = rw e (placed _ _ refl (digit-first _ n h))
 
 pub none-written : (s : List ℕ) (n : ℕ) → Written s n 0
@@ -144,30 +159,14 @@ all-written s n i e w =
     let z : length s - i ≡ 0 = omega arith in
     sym (w ∙ rw (z, e, take-length, append-nil))
 
--- ---- a number below ten, from its end
+-- the last place of a number below ten
+pub last-written : (s : List ℕ) (n i : ℕ) → i + 1 ≡ length s → n < 10 → Written s n i → set s i (asciiZero + n) ≡ column (length s) n
+last-written s n i e h w =
+    let t = placed s n i (omega arith) w 0 (asciiZero + n) (omega arith) (last n ∙ rw (mod-eq-of-lt h)) in
+    rw length-set at (all-written (set s i (asciiZero + n)) n (i + 1) (simp length-set e) t)
 
--- the places of s from i on are those of n's column, and spaces are to come before them
-abbrev pub Blank : List ℕ → ℕ → ℕ → Type 0
-Blank s n i = column (length s) n ≡ replicate i asciiSpace ++ drop i s
+-- ---- spaces
 
 pub spaces-move : (i : ℕ) (s : List ℕ) → asciiSpace ∷ (replicate i asciiSpace ++ s) ≡ replicate i asciiSpace ++ (asciiSpace ∷ s)
 spaces-move zero s = refl
 spaces-move (suc i) s = ap (λ (l : List ℕ). asciiSpace ∷ l) (spaces-move i s)
-
--- the place i is written
-drop-set : (s : List ℕ) (i d : ℕ) → i < length s → drop i (set s i d) ≡ d ∷ drop (suc i) s
-drop-set s i d h =
-    let g : i < length (set s i d) = simp length-set h in
-    rw (drop-cons (set s i d) i 0 g, getD-set-same s i d 0 h, drop-set-lt (suc i) s i d (omega arith))
-
-pub digit-last : (s : List ℕ) (n i : ℕ) → i + 1 ≡ length s → n < 10 → Blank (set s i (asciiZero + n)) n i
-digit-last s n i e h =
-    let z : length s ≡ suc i = omega arith in
-    rw (length-set, z, short i n h, mod-eq-of-lt h, drop-set s i (asciiZero + n) (omega arith), ← z, drop-length)
-
-pub space-before : (s : List ℕ) (n i : ℕ) → 0 < i → i ≤ length s → Blank s n i → Blank (set s (i - 1) asciiSpace) n (i - 1)
-space-before s n zero l h w = absurd (omega arith)
-space-before s n (suc i) l h w = rw (length-set, sub-one, drop-set s i asciiSpace (omega arith)) (w ∙ spaces-move i (drop (suc i) s))
-
-pub first-written : (s : List ℕ) (n i : ℕ) → i ≡ 0 → Blank s n i → s ≡ column (length s) n
-first-written s n i e w = sym (w ∙ rw e)

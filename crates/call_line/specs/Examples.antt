@@ -11,6 +11,7 @@ use Rattle.call_line.specs.declared.Number.the-variants.{Value, Wrong}
 use Rattle.call_line.specs.declared.Call.the-variants.{Estimate, Acknowledged, AlrOn, AlrOff, CapacityIs, CapacityNone, Packet, Report, Read}
 use Rattle.call_line.specs.declared.Line.the-variants.{Taken, Refused, ReportRefused}
 use Rattle.call_line.specs.Column.{isDigit, more, afterZero, digitsOf, leadingSpaces, columnOf, column, row}
+use Rattle.call_line.specs.Digits.{lastDigits}
 use Rattle.call_line.specs.Line.{widths, four, fieldsOf, inTable, unlessRefused, byFlag, reportOf, alrOf, capacityOf, packetOf, callOf, checked, lineOf}
 
 -- ---- columns
@@ -59,6 +60,11 @@ placed :
     (48 ∷ 53 ∷ []) ∷ [] ∷ (32 ∷ 32 ∷ 48 ∷ []) ∷ largest-end ∷ (49 ∷ largest-end) ∷ (32 ∷ 32 ∷ 49 ∷ largest-end) ∷ []
 unfolding column
 placed = refl
+
+-- the last two digits of 105, and five of it
+last-digits : map (λ w. lastDigits w 105) (2 ∷ 5 ∷ []) ≡ (5 ∷ 0 ∷ []) ∷ (5 ∷ 0 ∷ 1 ∷ 0 ∷ 0 ∷ []) ∷ []
+unfolding lastDigits
+last-digits = refl
 
 -- ---- lines
 

@@ -5,7 +5,7 @@ ghost use Prim.Native.Nat.{_*_, _/_, _%_, _≤_, _<_};
 ghost use lib.ListN.{length};
 ghost use Rattle.packets.specs.Summary.{largestPacket};
 ghost use Rattle.call_line.specs.Column.{isDigit, digitsOf, column};
-ghost use Rattle.call_line.specs.Digits.{Digits};
+ghost use Rattle.call_line.specs.Digits.{lastDigits};
 ghost use Rattle.call_line.specs.Line.{alone, flagged, allowed, fieldsOf, inTable, rateCode, unlessRefused, alrOf, capacityOf, packetOf};
 ghost use Rattle.call_line.specs.Line.{reportOf, callOf, lineOf};
 use bandwidth::Bitrate;
@@ -343,11 +343,13 @@ fn digit(rest: u64, power: u64) -> Subtracted
     Subtracted { value, rest }
 }
 
-// The digits of n by their powers, with zeros above its first. All twenty places are gone through, so
-// that each power is a constant to the compiler.
+// The last twenty digits of n, from the last on; it has no more. All twenty whatever the column: the
+// loop then has a fixed length and each power is a constant to the compiler, which makes one
+// multiplication of the subtractions of each.
 fn digits(n: u64) -> [u8; MOST_DIGITS]
-    ensures { λ r. ⌜ Digits n r ⌝ }
+    ensures { λ r. ⌜ r ≡ lastDigits 20 n ⌝ }
 {
+    // A copy, since the array of a constant is built anew wherever it is named.
     let powers = POWERS;
     let mut digits = [0u8; MOST_DIGITS];
     let mut rest = n;
@@ -361,8 +363,7 @@ fn digits(n: u64) -> [u8; MOST_DIGITS]
     digits
 }
 
-// Fills the column with n, which is below ten. The spaces go from the end: forwards the compiler makes
-// a call of C's memset of them, which is dear for a column of two.
+// Fills the column with n, which is below ten.
 fn write_digit(out: &mut [u8], n: u64)
     requires { ⌜ n < 10 ⌝ }
     ensures { λ _. ⌜ now (out .exit) ≡ column (length (now (out .entry))) n ⌝ }
@@ -370,12 +371,13 @@ fn write_digit(out: &mut [u8], n: u64)
     if out.len() == 0 {
         return;
     }
-    let mut i = out.len() - 1;
-    out[i] = b'0' + n as u8;
-    while i > 0 {
-        i -= 1;
+    let last = out.len() - 1;
+    let mut i = 0;
+    while i < last {
         out[i] = b' ';
+        i += 1;
     }
+    out[last] = b'0' + n as u8;
 }
 
 // Fills the column with n, right-justified with spaces. Of a number with more digits than the column

@@ -1,5 +1,5 @@
 -- `digit` meets its contract: what was subtracted, and what is left, are the number. Assumes nothing.
-use Prim.Native.Nat.{ℕ, _+_, _*_, _<_}
+use Prim.Native.Nat.{_+_, _*_, _<_}
 use mathlib.Core.Path.{_≡_, sym}
 use native.Mathlib.Nat.{zero-mul, zero-add, add-mul, lt-of-mul-lt-mul-right}
 use native.Mathlib.Omega.{arith}

@@ -1,24 +1,26 @@
 -- `digits` meets its contract: the digits from a power on, and what is left below it. Assumes nothing.
-use Prim.Native.Nat.{_+_, _-_, _%_, _^_, _≤_}
+use Prim.Native.Nat.{_-_, _/_, _%_, _^_, _≤_}
 use mathlib.Core.Path.{_≡_, refl, sym}
 use native.Mathlib.Nat.{mod-eq-of-lt}
 use native.Mathlib.Omega.{arith}
 use borrow.Author.Needs.{needs}
-use lib.ListN.{length, length-set}
+use lib.ListN.{length, drop, length-set}
 use Rattle.logarithm.proofs.Table.{values}
-use Rattle.call_line.proofs.Writing.{power-at, power-pos, parted, DigitsFrom, one-digit-more}
+use Rattle.call_line.specs.Digits.{lastDigits}
+use Rattle.call_line.proofs.Writing.{power-at, power-pos, parted, one-digit-more, all-digits}
 use Rattle.call_line.proofs.digits.Statement.{statement}
 use Rattle.call_line.proofs.digits.Tie as tie
 
 abbrev Inv-loop : tie.InvT-loop
 Inv-loop n powers digits₀ rest₀ k₀ digits rest k =
-    (k ≤ 20) × (rest ≡ n % 10 ^ k) × (length digits ≡ 20) × DigitsFrom k n digits × (powers ≡ values (λ k. 10 ^ k) 20)
+    (k ≤ 20) × (rest ≡ n % 10 ^ k) × (length digits ≡ 20) × (drop k digits ≡ lastDigits (20 - k) (n / 10 ^ k)) × (powers ≡ values (λ k. 10 ^ k) 20)
 
 abbrev μ-loop : tie.MeasureT-loop
 μ-loop n powers digits₀ rest₀ k₀ digits rest k = k
 
 loop-holds : tie.Need-loop-holds Inv-loop μ-loop
-loop-holds c = (search needs, sym (mod-eq-of-lt (omega arith)), refl, (λ j u v. absurd (omega arith)), refl)
+unfolding lastDigits
+loop-holds c = (search needs, sym (mod-eq-of-lt (omega arith)), refl, refl, refl)
 
 sub-k : tie.Need-sub-k Inv-loop μ-loop
 sub-k c = search needs
@@ -47,11 +49,11 @@ loop-again c =
     let n = c .before .before .before .args .n in
     let p = power-at (l .inv .4) (l .k - 1) (omega arith) in
     let q = parted n (l .k) (omega arith) in
-    let from : DigitsFrom (l .k - 1 + 1) n (l .digits) = λ j u v. l .inv .3 j (omega arith) v in
-    (omega arith, (cc), simp length-set (l .inv .2), one-digit-more n (l .k - 1) (l .digits) _ (l .inv .2) (omega arith) (cc) from, l .inv .4)
+    let d = one-digit-more n (l .k) (l .digits) (c .digit .result .value) (omega arith) (l .inv .0) (l .inv .2) (cc) (l .inv .3) in
+    (omega arith, (cc), simp length-set (l .inv .2), d, l .inv .4)
 
 returns : tie.Need-returns Inv-loop μ-loop
-returns c k l = c .before .loop .inv .3 k (omega arith) l
+returns c = all-digits (c .before .before .args .n) (c .before .loop .k) (c .before .loop .digits) (omega arith) (c .before .loop .inv .3)
 
 pub digits-spec : {M : Type 1} → statement M
 digits-spec =

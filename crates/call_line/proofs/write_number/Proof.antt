@@ -1,11 +1,11 @@
 -- `write_number` meets its contract: how many digits the number has, the spaces before them, and they. Assumes nothing.
 use Prim.Native.Nat.{ℕ, _+_, _-_, _/_, _%_, _^_, _≤_, _<_}
-use mathlib.Core.Path.{_≡_, refl, sym, _∙_}
+use mathlib.Core.Path.{_≡_, refl, sym, ap, _∙_}
+use mathlib.Core.List.{List}
 use native.Mathlib.Omega.{arith}
 use borrow.Author.Needs.{needs}
 use lib.ListN.{length, getD, length-set}
-use Rattle.call_line.specs.Column.{column}
-use Rattle.call_line.proofs.Writing.{below-power, power-within, some-places, digit-reaches, zero-below, Written, none-written, space-placed}
+use Rattle.call_line.proofs.Writing.{below-power, power-within, some-places, digit-of, digit-reaches, zero-below, Written, none-written, space-placed}
 use Rattle.call_line.proofs.Writing.{digit-placed, all-written}
 use Rattle.call_line.proofs.write_number.Statement.{statement}
 use Rattle.call_line.proofs.write_number.Tie as tie
@@ -46,13 +46,16 @@ counted c = c .before .before .before .before .before
 abbrev place : Digit → ℕ
 place c = length (c .before .loop3 .out) - 1 - c .before .loop3 .i
 
+digit-of-number : (l : Counted) (k : ℕ) → k < 20 → getD (l .before .digits .result) k 0 ≡ number l / 10 ^ k % 10
+digit-of-number l k h = ap (λ (ds : List ℕ). getD ds k 0) (l .before .digits .ensures) ∙ digit-of 20 (number l) k h
+
 digit-at : (c : Digit) → getD (counted c .before .digits .result) (place c) 0 ≡ number (counted c) / 10 ^ place c % 10
-digit-at c = counted c .before .digits .ensures (place c) (omega arith)
+digit-at c = digit-of-number (counted c) (place c) (omega arith)
 
 reaches : (c : Digit) → 10 ^ place c ≤ number (counted c)
 reaches c =
     let k = counted c .loop .count in
-    let e = counted c .before .digits .ensures (k - 1) (omega arith) in
+    let e = digit-of-number (counted c) (k - 1) (omega arith) in
     power-within (digit-reaches (number (counted c)) (k - 1) (λ z. c .before .before .before .before .loop-test .left (e ∙ z))) (omega arith)
 
 -- ---- the needs
@@ -89,7 +92,7 @@ loop-again : tie.Need-loop-again Inv-loop μ-loop Inv-loop2 μ-loop2 Inv-loop3 �
 loop-again c =
     let l = c .before in
     let k = l .loop .count in
-    let e = l .before .digits .ensures (k - 1) (omega arith) in
+    let e = digit-of-number l (k - 1) (omega arith) in
     let h = zero-below (number l) k (l .loop .inv .0) (l .loop .inv .2) (sym e ∙ c .loop-test .taken) in
     (some-places (number l) (k - 1) (omega arith) h, omega arith, h)
 
@@ -144,7 +147,7 @@ loop3-less c = search needs
 loop3-again : tie.Need-loop3-again Inv-loop μ-loop Inv-loop2 μ-loop2 Inv-loop3 μ-loop3
 loop3-again c =
     let l = c .before .loop3 in
-    (omega arith, omega arith, simp length-set (l .inv .2), digit-placed (l .out) _ (l .i) (omega arith) (l .inv .3) _ (digit-at c) (λ p. reaches c))
+    (omega arith, omega arith, simp length-set (l .inv .2), digit-placed (l .out) _ (l .i) (omega arith) (l .inv .3) _ (digit-at c) (reaches c))
 
 same-length-2 : tie.Need-same-length-2 Inv-loop μ-loop Inv-loop2 μ-loop2 Inv-loop3 μ-loop3
 same-length-2 c = search needs
