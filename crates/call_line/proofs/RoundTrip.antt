@@ -19,7 +19,10 @@ use Rattle.call_line.specs.declared.Fields.the-variants.{Read, Unreadabl
 use Rattle.call_line.specs.Line.{widths, four, fieldsOf}
 use Rattle.call_line.proofs.Reading.{digit-bounds}
 use Rattle.call_line.proofs.Columns.{within}
-use Rattle.call_line.proofs.Writing.{spaces-move}
+
+spaces-move : (i : ℕ) (s : List ℕ) → asciiSpace ∷ (replicate i asciiSpace ++ s) ≡ replicate i asciiSpace ++ (asciiSpace ∷ s)
+spaces-move zero s = refl
+spaces-move (suc i) s = ap (λ (l : List ℕ). asciiSpace ∷ l) (spaces-move i s)
 
 -- spaces before a column say nothing
 spaces : (k : ℕ) (s : List ℕ) → columnOf (replicate k asciiSpace ++ s) ≡ columnOf s

@@ -164,9 +164,3 @@ pub last-written : (s : List ℕ) (n i : ℕ) → i + 1 ≡ length s → n < 10 
 last-written s n i e h w =
     let t = placed s n i (omega arith) w 0 (asciiZero + n) (omega arith) (last n ∙ rw (mod-eq-of-lt h)) in
     rw length-set at (all-written (set s i (asciiZero + n)) n (i + 1) (simp length-set e) t)
-
--- ---- spaces
-
-pub spaces-move : (i : ℕ) (s : List ℕ) → asciiSpace ∷ (replicate i asciiSpace ++ s) ≡ replicate i asciiSpace ++ (asciiSpace ∷ s)
-spaces-move zero s = refl
-spaces-move (suc i) s = ap (λ (l : List ℕ). asciiSpace ∷ l) (spaces-move i s)

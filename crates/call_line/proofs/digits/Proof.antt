@@ -1,4 +1,4 @@
--- `digits` meets its contract: the digits from a power on, and what is left below it. Assumes nothing.
+-- `digits` meets its contract: the digits from a power on, what is left below it, and that the table holds the powers. Assumes nothing.
 use Prim.Native.Nat.{_-_, _/_, _%_, _^_, _≤_}
 use mathlib.Core.Path.{_≡_, refl, sym}
 use native.Mathlib.Nat.{mod-eq-of-lt}
@@ -18,6 +18,7 @@ Inv-loop n powers digits₀ rest₀ k₀ digits rest k =
 abbrev μ-loop : tie.MeasureT-loop
 μ-loop n powers digits₀ rest₀ k₀ digits rest k = k
 
+-- the last part is the test of the whole table, which antt computes
 loop-holds : tie.Need-loop-holds Inv-loop μ-loop
 unfolding lastDigits
 loop-holds c = (search needs, sym (mod-eq-of-lt (omega arith)), refl, refl, refl)

@@ -4,12 +4,9 @@ use mathlib.Core.Path.{_≡_, refl, sym}
 use native.Mathlib.Omega.{arith}
 use borrow.Author.Needs.{needs}
 use lib.ListN.{length, length-set}
-use Rattle.call_line.specs.Column.{column}
 use Rattle.call_line.proofs.Writing.{Written, below-power, none-written, space-placed, all-written, last-written}
 use Rattle.call_line.proofs.write_digit.Statement.{statement}
 use Rattle.call_line.proofs.write_digit.Tie as tie
-use Rattle.call_line.proofs.write_digit.Reads as reads
-use Rattle.call_line.proofs.write_digit.Lts as lts
 
 abbrev Inv-loop : tie.InvT-loop
 Inv-loop out₀ n last i₀ out i = (i ≤ last) × (length out ≡ length out₀) × Written out n i
@@ -18,7 +15,9 @@ abbrev μ-loop : tie.MeasureT-loop
 μ-loop out₀ n last i₀ out i = last - i
 
 returns : tie.Need-returns Inv-loop μ-loop
-returns c = all-written (c .before .args .out .now) (c .before .args .n) 0 (sym (c .if1 .taken)) (none-written (c .before .args .out .now) (c .before .args .n))
+returns c =
+    let a = c .before .args in
+    all-written (a .out .now) (a .n) 0 (sym (c .if1 .taken)) (none-written (a .out .now) (a .n))
 
 sub-last : tie.Need-sub-last Inv-loop μ-loop
 sub-last c = search needs
