@@ -11,10 +11,7 @@ use lib.IntN.{ℤ, pos, negsuc}
 use lib.ListN.{length, take, drop, length-append, length-drop, length-take}
 use lib.Seq.{take-all}
 use lib.Signed.{ltZ, leZ}
-use mir.Syntax.{w64}
-use mir.Val.{SFits, ofZ, toZ}
 use Rattle.float.proofs.Both.{both}
-use Rattle.integer.proofs.Signed.{read-is}
 use Rattle.io.specs.Counts.{clamped}
 use Rattle.call_list.specs.declared.State.{State}
 use Rattle.call_list.specs.declared.Fed.{Fed}
@@ -26,12 +23,6 @@ use Rattle.answer.specs.declared.Stop.{Stop}
 use Rattle.answer.specs.Turn.{Idles, Turned, someRead, goesOn, Stops}
 
 -- ---- what a read answered
-
-pub is-zero : {got : ℤ} → SFits w64 got → ofZ w64 got ≡ 0 → got ≡ pos 0
-is-zero h e = sym (read-is h) ∙ ap (toZ w64) e
-
-pub not-zero : {got : ℤ} → (ofZ w64 got ≡ 0 → ⊥) → got ≡ pos 0 → ⊥
-not-zero n e = n (ap (ofZ w64) e)
 
 pub none-read : (got : ℤ) → leZ got (pos 0) ≡ true → someRead got ≡ false
 none-read (negsuc n) e = refl

@@ -6,17 +6,18 @@ use mathlib.Core.List.{List, [], _∷_}
 use native.Mathlib.Omega.{arith}
 use borrow.Author.Tests.{eqb-true}
 use lib.Dec.{eqb}
-use lib.ListN.{getD}
+use lib.ListN.{length, getD}
 use Rattle.float.proofs.Both.{both}
 use Rattle.loss_controller.specs.Setters.{timeRefusal}
 use Rattle.call_line.specs.declared.Fields.{Fields}
 use Rattle.call_line.specs.declared.Fields.the-variants.{Read as Fields·Read, Unreadable}
 use Rattle.call_line.specs.declared.Call.{Call}
-use Rattle.call_line.specs.declared.Call.the-variants.{AlrOn, AlrOff, CapacityIs, CapacityNone, Report, Read}
+use Rattle.call_line.specs.declared.Call.the-variants.{Estimate, Acknowledged, AlrOn, AlrOff, CapacityIs, CapacityNone, Packet, Report, Read}
 use Rattle.call_line.specs.declared.Line.the-variants.{Taken, Refused, ReportRefused}
 use Rattle.call_line.specs.Column.{row}
 use Rattle.call_line.specs.Line.{widths, fieldsOf, inTable, rateCode, unlessRefused, byFlag, reportOf, alrOf, capacityOf, packetOf, callOf}
 use Rattle.call_line.specs.Line.{valuesOf, checked, lineOf}
+use Rattle.call_line.specs.Write.{fields}
 use Rattle.call_line.proofs.RoundTrip.{Fits, line-written, line-read}
 
 two-zeros : (b c : ℕ) → eqb b 0 && eqb c 0 ≡ true → (b ≡ 0) × (c ≡ 0)
@@ -73,20 +74,41 @@ values (suc (suc (suc (suc (suc (suc (suc zero))))))) a b c call h e =
     let f : call ≡ Read = cc in rw (f, eqb-true a 0 (p .0), z .0, z .1)
 values (suc (suc (suc (suc (suc (suc (suc (suc k)))))))) a b c call h e = absurd (true≢false (sym h))
 
--- what is read is what is written
-pub call-read : (s : List ℕ) (call : Call) → lineOf s ≡ Taken call → row widths (valuesOf call) ≡ s
+-- a line that is taken has its call's values in its fields
+pub taken-fields : (s : List ℕ) (call : Call) → lineOf s ≡ Taken call → fieldsOf s ≡ fields (valuesOf call)
 unfolding lineOf checked
-call-read s call e = pick (fieldsOf s) refl e
+taken-fields s call e = pick (fieldsOf s) e
   where
     allowed-or-not :
-        (k a b c : ℕ) (t : Bool) → inTable k a b c ≡ t → fieldsOf s ≡ Fields·Read k a b c
-        → cond t (callOf k a b c) (Refused 1) ≡ Taken call → row widths (valuesOf call) ≡ s
-    allowed-or-not k a b c true h f e = ap (row widths) (values k a b c call h e) ∙ line-read s k a b c f
-    allowed-or-not k a b c false h f e = let z : _≡_ {A = ℕ} 0 1 = cc in absurd (omega arith)
+        (k a b c : ℕ) (t : Bool) → inTable k a b c ≡ t → cond t (callOf k a b c) (Refused 1) ≡ Taken call
+        → Fields·Read k a b c ≡ fields (valuesOf call)
+    allowed-or-not k a b c true h e = sym (ap fields (values k a b c call h e))
+    allowed-or-not k a b c false h e = let z : _≡_ {A = ℕ} 0 1 = cc in absurd (omega arith)
 
-    pick : (f : Fields) → fieldsOf s ≡ f → checked f ≡ Taken call → row widths (valuesOf call) ≡ s
-    pick (Fields·Read k a b c) f e = allowed-or-not k a b c (inTable k a b c) refl f e
-    pick Unreadable f e = let z : _≡_ {A = ℕ} 0 1 = cc in absurd (omega arith)
+    pick : (f : Fields) → checked f ≡ Taken call → f ≡ fields (valuesOf call)
+    pick (Fields·Read k a b c) e = allowed-or-not k a b c (inTable k a b c) refl e
+    pick Unreadable e = let z : _≡_ {A = ℕ} 0 1 = cc in absurd (omega arith)
+
+four-values :
+    (call : Call)
+    → valuesOf call ≡ getD (valuesOf call) 0 0 ∷ getD (valuesOf call) 1 0 ∷ getD (valuesOf call) 2 0 ∷ getD (valuesOf call) 3 0 ∷ []
+unfolding valuesOf
+four-values (Estimate bandwidth) = refl
+four-values (Acknowledged bitrate) = refl
+four-values (AlrOn start) = refl
+four-values AlrOff = refl
+four-values (CapacityIs bandwidth) = refl
+four-values CapacityNone = refl
+four-values (Packet time lost size) = refl
+four-values (Report delay) = refl
+four-values Read = refl
+
+pub four-long : (call : Call) → length (valuesOf call) ≡ length widths
+four-long call = ap length (four-values call)
+
+-- what is read is what is written
+pub call-read : (s : List ℕ) (call : Call) → lineOf s ≡ Taken call → row widths (valuesOf call) ≡ s
+call-read s call e = ap (row widths) (four-values call) ∙ line-read s _ _ _ _ (taken-fields s call e)
 
 -- what is written is read: four numbers that fit their columns are checked as they are
 pub line-says :

@@ -4,4 +4,5 @@ pub mod Table
 pub mod Writing
 pub mod RoundTrip
 pub mod Calls
+pub mod Written
 pub mod Clear

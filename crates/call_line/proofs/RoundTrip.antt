@@ -178,6 +178,24 @@ length-row [] ns e = refl
 length-row (w ∷ ws) [] e = absurd (omega arith)
 length-row (w ∷ ws) (n ∷ ns) e = simp (length-append, length-column, length-row ws ns (omega arith))
 
+-- its first k + 1 columns: the first k, and one more
+pub row-more :
+    (ws ns : List ℕ) → length ws ≡ length ns → (k : ℕ) → k < length ws
+    → row (take (suc k) ws) (take (suc k) ns) ≡ row (take k ws) (take k ns) ++ column (getD ws k 0) (getD ns k 0)
+unfolding row
+row-more [] ns e k h = absurd (omega arith)
+row-more (w ∷ ws) [] e k h = absurd (omega arith)
+row-more (w ∷ ws) (n ∷ ns) e zero h = append-nil (column w n)
+row-more (w ∷ ws) (n ∷ ns) e (suc k) h = rw (row-more ws ns (omega arith) k (omega arith), append-assoc)
+
+pub length-row-first : (ws ns : List ℕ) → length ws ≡ length ns → (k : ℕ) → k ≤ length ws → length (row (take k ws) (take k ns)) ≡ start ws k
+unfolding row
+length-row-first ws ns e zero h = refl
+length-row-first [] ns e (suc k) h = absurd (omega arith)
+length-row-first (w ∷ ws) [] e (suc k) h = absurd (omega arith)
+length-row-first (w ∷ ws) (n ∷ ns) e (suc k) h =
+    simp (length-append, length-column, length-row-first ws ns (omega arith) k (omega arith))
+
 -- its column j is the number j
 pub cut-row :
     (ws ns : List ℕ) → length ws ≡ length ns → (j : ℕ) → j < length ws → cut ws j (row ws ns) ≡ column (getD ws j 0) (getD ns j 0)

@@ -12,7 +12,8 @@ use Rattle.call_line.specs.declared.Call.the-variants.{Estimate, Acknowl
 use Rattle.call_line.specs.declared.Line.the-variants.{Taken, Refused, ReportRefused}
 use Rattle.call_line.specs.Column.{isDigit, more, afterZero, digitsOf, leadingSpaces, columnOf, column, row}
 use Rattle.call_line.specs.Digits.{lastDigits}
-use Rattle.call_line.specs.Line.{widths, four, fieldsOf, inTable, unlessRefused, byFlag, reportOf, alrOf, capacityOf, packetOf, callOf, checked, lineOf}
+use Rattle.call_line.specs.Write.{lineText, callRefusal, writeRefusal, written}
+use Rattle.call_line.specs.Line.{widths, four, fieldsOf, inTable, unlessRefused, byFlag, reportOf, alrOf, capacityOf, packetOf, callOf, valuesOf, checked, lineOf}
 
 -- ---- columns
 
@@ -49,10 +50,10 @@ unfolding columnOf leadingSpaces digitsOf isDigit more afterZero
 too-large = refl
 
 -- 0, 7, 10 and 100 in two places: of the last, what has room
-written :
+in-two-places :
     map (column 2) (0 ∷ 7 ∷ 10 ∷ 100 ∷ []) ≡ (32 ∷ 48 ∷ []) ∷ (32 ∷ 55 ∷ []) ∷ (49 ∷ 48 ∷ []) ∷ (48 ∷ 48 ∷ []) ∷ []
 unfolding column
-written = refl
+in-two-places = refl
 
 -- 105 in two places, 0 in none and in three, and the largest number in 19 places, in 20 and in 22
 placed :
@@ -168,3 +169,54 @@ rates :
 unfolding line row column lineOf checked fieldsOf four columnOf leadingSpaces digitsOf isDigit more afterZero inTable callOf unlessRefused
     reportOf rateRefusal ofBits toBits lt signBit
 rates = refl
+
+-- ---- calls written
+
+-- document 01's whole example, byte by byte: an estimate of 1,000,000 bit/s, and a read
+texts :
+    map lineText (Estimate 4696837146684686336 ∷ Read ∷ []) ≡
+    ((32 ∷ 49 ∷ [])
+    ++ ((32 ∷ 52 ∷ 54 ∷ 57 ∷ 54 ∷ 56 ∷ 51 ∷ 55 ∷ 49 ∷ 52 ∷ 54 ∷ 54 ∷ 56 ∷ 52 ∷ 54 ∷ 56 ∷ 54 ∷ 51 ∷ 51 ∷ 54 ∷ [])
+    ++ ((replicate 19 32 ++ (48 ∷ [])) ++ (replicate 5 32 ++ (48 ∷ 10 ∷ [])))))
+    ∷ ((32 ∷ 55 ∷ [])
+    ++ ((replicate 19 32 ++ (48 ∷ [])) ++ ((replicate 19 32 ++ (48 ∷ [])) ++ (replicate 5 32 ++ (48 ∷ 10 ∷ [])))))
+    ∷ []
+unfolding lineText valuesOf row column
+texts = refl
+
+-- every kind of call, those with a flag on and off: its fields
+fields :
+    map lineText
+    (Acknowledged 7 ∷ AlrOn 7 ∷ AlrOff ∷ CapacityIs 7 ∷ CapacityNone ∷ Packet 7 1 1200 ∷ Report 7 ∷ []) ≡
+    map (λ l. l ++ (10 ∷ []))
+    (line 2 7 0 0 ∷ line 3 7 1 0 ∷ line 3 0 0 0 ∷ line 4 7 1 0 ∷ line 4 0 0 0 ∷ line 5 7 1 1200 ∷ line 6 7 0 0 ∷ [])
+unfolding lineText valuesOf line
+fields = refl
+
+-- the reader's number, also with no room: -0.0, a capacity and a report above 10^15, ALR and a packet too late, the latter also with the flag 2, the
+-- flag 2; 13 with one byte too few, and nothing to refuse with one more: a NaN, off, none
+refusals :
+    map (λ call. map (writeRefusal call) (0 ∷ 48 ∷ 49 ∷ []))
+    (Estimate (2 ^ 63)
+    ∷ CapacityIs 0x430C6BF526340001
+    ∷ Report 0x430C6BF526340001
+    ∷ AlrOn (4 * 10 ^ 18 + 1)
+    ∷ Packet (4 * 10 ^ 18 + 1) 0 0
+    ∷ Packet (4 * 10 ^ 18 + 1) 2 0
+    ∷ Packet 0 2 0
+    ∷ Acknowledged 0xFFF8000000000001
+    ∷ AlrOff
+    ∷ CapacityNone
+    ∷ []) ≡
+    replicate 3 2 ∷ replicate 3 2 ∷ replicate 3 2 ∷ replicate 3 3 ∷ replicate 3 3 ∷ replicate 3 3 ∷ replicate 3 8 ∷ (13 ∷ 13 ∷ 0 ∷ [])
+    ∷ (13 ∷ 13 ∷ 0 ∷ []) ∷ (13 ∷ 13 ∷ 0 ∷ []) ∷ []
+unfolding writeRefusal callRefusal valuesOf checked inTable callOf unlessRefused byFlag reportOf alrOf capacityOf packetOf
+    rateRefusal timeRefusal packetRefusal ofBits toBits lt signBit
+refusals = refl
+
+-- the whole buffer: bytes behind the newline stay, and all of it where there is no room or the call is turned down
+buffers :
+    written Read (replicate 51 46) ∷ written Read (replicate 48 46) ∷ written (Estimate (2 ^ 63)) (replicate 51 46) ∷ [] ≡
+    (line 7 0 0 0 ++ (10 ∷ 46 ∷ 46 ∷ [])) ∷ replicate 48 46 ∷ replicate 51 46 ∷ []
+unfolding written writeRefusal callRefusal lineText valuesOf line row column checked inTable callOf unlessRefused rateRefusal ofBits toBits lt signBit
+buffers = refl

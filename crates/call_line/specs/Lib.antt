@@ -1,4 +1,5 @@
 pub mod Column
 pub mod Digits
 pub mod Line
+pub mod Write
 mod Examples

@@ -1,4 +1,5 @@
-// A call list's lines and columns: what a line says, and a number written in a column.
+// A call list's lines and columns: what a line says, a call written as a line, and a number written in
+// a column.
 ghost use mathlib.Core.Path.{_≡_};
 ghost use mathlib.Core.Bool.{true};
 ghost use Prim.Native.Nat.{_*_, _/_, _%_, _≤_, _<_};
@@ -7,7 +8,9 @@ ghost use Rattle.packets.specs.Summary.{largestPacket};
 ghost use Rattle.call_line.specs.Column.{isDigit, digitsOf, column};
 ghost use Rattle.call_line.specs.Digits.{lastDigits};
 ghost use Rattle.call_line.specs.Line.{alone, flagged, allowed, fieldsOf, inTable, rateCode, unlessRefused, alrOf, capacityOf, packetOf};
-ghost use Rattle.call_line.specs.Line.{reportOf, callOf, lineOf};
+ghost use Rattle.call_line.specs.Line.{reportOf, callOf, valuesOf, checked, lineOf};
+ghost use Rattle.call_line.specs.Write.{callRefusal, writeRefusal, written, ReadBack};
+ghost use Rattle.call_line.specs.declared.Fields.the-variants.{Read};
 use bandwidth::Bitrate;
 use packets::PacketSize;
 
@@ -18,14 +21,11 @@ const WIDTHS: [usize; COLUMNS] = [2, 20, 20, 6];
 
 pub const LINE_WIDTH: usize = WIDTHS[0] + WIDTHS[1] + WIDTHS[2] + WIDTHS[3];
 
-// The largest PacketSize
-const MOST_BYTES: u64 = 65_535;
-
 // The digits of u64::MAX
 const MOST_DIGITS: usize = 20;
 
 // What a column says.
-enum Number {
+pub enum Number {
     Value(u64),
     Wrong,
 }
@@ -60,7 +60,7 @@ pub enum Line {
     ReportRefused(u8),
 }
 
-fn is_digit(byte: u8) -> bool
+pub fn is_digit(byte: u8) -> bool
     ensures { λ r. ⌜ r ≡ isDigit byte ⌝ }
 {
     if byte < b'0' {
@@ -71,7 +71,7 @@ fn is_digit(byte: u8) -> bool
 
 // The number in a column's digits. Wrong without digits, with a zero before others, with a byte that
 // is no digit, and above 2^64 - 1.
-fn read_number(digits: &[u8]) -> Number
+pub fn read_number(digits: &[u8]) -> Number
     ensures { λ r. ⌜ r ≡ digitsOf (now (digits .entry)) ⌝ }
 {
     if digits.len() == 0 {
@@ -178,7 +178,7 @@ fn in_table(kind: u64, a: u64, b: u64, c: u64) -> bool
     match kind {
         1..=2 | 6 => a_alone(b, c),
         3..=4 => a_with_flag(a, b, c),
-        5 => c <= MOST_BYTES,
+        5 => c <= packets::LARGEST_PACKET,
         7 => {
             if a != 0 {
                 return false;
@@ -284,18 +284,22 @@ fn call_of(kind: u64, a: u64, b: u64, c: u64) -> Line
     }
 }
 
+// The call of any four fields, or the refusal.
+fn checked(kind: u64, a: u64, b: u64, c: u64) -> Line
+    ensures { λ r. ⌜ r ≡ checked (Read kind a b c) ⌝ }
+{
+    if !in_table(kind, a, b, c) {
+        return Line::Refused(1);
+    }
+    call_of(kind, a, b, c)
+}
+
 // What a line says, its newline left out.
 pub fn read_line(line: &[u8]) -> Line
     ensures { λ r. ⌜ r ≡ lineOf (now (line .entry)) ⌝ }
 {
     match read_fields(line) {
-        Fields::Read { kind, a, b, c } => {
-            if in_table(kind, a, b, c) {
-                call_of(kind, a, b, c)
-            } else {
-                Line::Refused(1)
-            }
-        }
+        Fields::Read { kind, a, b, c } => checked(kind, a, b, c),
         Fields::Unreadable => Line::Refused(1),
     }
 }
@@ -405,4 +409,59 @@ pub fn write_number(out: &mut [u8], n: u64)
         out[i] = b'0' + digits[out.len() - 1 - i];
         i += 1;
     }
+}
+
+// The fields of a call's line: kind, A, B and C.
+fn values(call: Call) -> [u64; COLUMNS]
+    ensures { λ r. ⌜ r ≡ valuesOf call ⌝ }
+{
+    match call {
+        Call::Estimate(bandwidth) => [1, bandwidth, 0, 0],
+        Call::Acknowledged(bitrate) => [2, bitrate, 0, 0],
+        Call::AlrOn(start) => [3, start, 1, 0],
+        Call::AlrOff => [3, 0, 0, 0],
+        Call::CapacityIs(bandwidth) => [4, bandwidth, 1, 0],
+        Call::CapacityNone => [4, 0, 0, 0],
+        Call::Packet { time, lost, size } => [5, time, lost as u64, size as u64],
+        Call::Report(delay) => [6, delay, 0, 0],
+        Call::Read => [7, 0, 0, 0],
+    }
+}
+
+// The number with which the reader would turn the call down, 0 if it would not.
+fn call_refusal(call: Call) -> u8
+    ensures { λ r. ⌜ r ≡ callRefusal call ⌝ }
+{
+    let values = values(call);
+    match checked(values[0], values[1], values[2], values[3]) {
+        Line::Taken(_) => 0,
+        Line::Refused(refusal) => refusal,
+        Line::ReportRefused(refusal) => refusal,
+    }
+}
+
+// Writes the call's line, with its newline, at the start of out, and answers 0; or answers the refusal
+// and writes nothing: the reader's number, or 13 where there is no room.
+pub fn write_line(call: Call, out: &mut [u8]) -> u8
+    ensures { λ r. ⌜ (r ≡ writeRefusal call (length (now (out .entry)))) × (now (out .exit) ≡ written call (now (out .entry))) ⌝ }
+    ensures { λ r. ⌜ ReadBack call r (now (out .exit)) ⌝ }
+{
+    let refusal = call_refusal(call);
+    if refusal != 0 {
+        return refusal;
+    }
+    if out.len() <= LINE_WIDTH {
+        return 13;
+    }
+    let values = values(call);
+    let mut from = 0;
+    let mut k = 0;
+    while k < COLUMNS {
+        let to = from + WIDTHS[k];
+        write_number(&mut out[from..to], values[k]);
+        from = to;
+        k += 1;
+    }
+    out[from] = b'\n';
+    0
 }

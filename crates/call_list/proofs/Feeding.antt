@@ -1,114 +1,55 @@
 -- A turn of `feed_all`. Assumes nothing.
-use Prim.Native.Nat.{ℕ, zero, suc, _+_, _-_, _*_, _/_, _≤_, _<_}
+use Prim.Native.Nat.{ℕ, _+_, _-_, _*_, _/_, _≤_, _<_}
 use mathlib.Core.Path.{_≡_, refl, sym, ap, _∙_}
-use mathlib.Core.Bool.{Bool, true, false, cond, true≢false}
+use mathlib.Core.Bool.{Bool, true, false, cond}
 use mathlib.Core.List.{List, [], _∷_, _++_}
 use native.Mathlib.Nat.{zero-add}
 use native.Mathlib.Omega.{arith}
-use borrow.Author.Tests.{le-leb, lt-leb, eq-eqb, ne-eqb, ltb-true}
-use lib.Dec.{eqb, ltb}
-use lib.ListN.{length, take, drop, set, length-set, length-drop, drop-of-length-le, take-append-drop}
+use borrow.Author.Tests.{le-leb, lt-leb, eq-eqb, ne-eqb}
+use lib.Dec.{eqb}
+use lib.ListN.{length, take, drop, length-drop, drop-of-length-le, take-append-drop}
 use lib.Seq.{drop-drop, length-take-le}
 use Rattle.call_line.specs.Column.{column}
 use Rattle.call_line.specs.Line.{lineOf}
 use Rattle.call_line.specs.declared.Call.{Call}
 use Rattle.call_line.specs.declared.Line.{Line}
 use Rattle.call_line.specs.declared.Line.the-variants.{Taken}
+use Rattle.buffer.specs.Laid.{laid}
+use Rattle.buffer.proofs.Laying.{take-laid, drop-laid, length-laid}
 use Rattle.call_list.specs.declared.Session.{Session}
 use Rattle.call_list.specs.declared.LineAnswer.{LineAnswer}
 use Rattle.call_list.specs.declared.State.{State}
 use Rattle.call_list.specs.declared.Fed.{Fed}
 use Rattle.call_list.specs.declared.Next.{Next}
 use Rattle.call_list.specs.Answer.{machineOf, afterOf, textOf, rowOf, After}
-use Rattle.call_list.specs.Feed.{Run, width, kept, rowWidth, blank, pushed, told, ended, step, runs, startOf, FedBy, Feeds, Finishes, roomy}
-use Rattle.call_list.specs.Pieces.{nextOf, mayStand, here, At, laid}
-use Rattle.call_list.proofs.Lines.{run-on, long, whole-line}
-use Rattle.call_list.proofs.Laying.{length-row, take-laid, drop-laid, length-laid}
+use Rattle.call_list.specs.Feed.{Run, width, kept, rowWidth, blank, pushedLine, pushedLen, pushed, told, ended, step, runs, startOf, FedBy, Feeds, Finishes, roomy}
+use Rattle.call_list.specs.Pieces.{nextOf, mayStand, here, At}
+use Rattle.call_list.proofs.KeptLines.{KeptLine, kept-on, Ended, unended, line-ended}
+use Rattle.call_list.proofs.Lines.{long, whole-line}
+use Rattle.call_list.proofs.Laying.{length-row}
 
 -- ---- a run over the next bytes
 
--- no line ended in them
-pub record Unended (r : Run) (i : ℕ) (s : List ℕ) (n : Next) : Type 0 where
-  pub all : n .read ≡ i + length s
-  pub run : runs r s ≡ record { line = n .line; len = n .len; machine = r .machine; out = r .out }
+-- what comes of them: the run r with another line so far, and where a line has ended
+module _ (r : Run) where
+  abbrev run-of : List ℕ → ℕ → List ℕ → Run
+  run-of line len s = runs (record { line = line; len = len; machine = r .machine; out = r .out }) s
 
--- one did
-pub record Ended (r : Run) (i : ℕ) (s : List ℕ) (n : Next) : Type 0 where
-  pub more : i < n .read
-  pub within : n .read ≤ i + length s
-  pub run : (k : ℕ) → n .read ≡ i + k → runs r s ≡ runs (told r (lineOf (take (n .len) (n .line)))) (drop k s)
+  abbrev run-after : List ℕ → List ℕ → Run
+  run-after l s = runs (told r (lineOf l)) s
 
-data Outcome (r : Run) (i : ℕ) (s : List ℕ) (n : Next) : Type 0 where
-  none : n .ended ≡ false → Unended r i s n → Outcome r i s n
-  one : n .ended ≡ true → Ended r i s n → Outcome r i s n
-
--- what is kept of the line
-pub record KeptLine (line : List ℕ) (len : ℕ) : Type 0 where
-  pub short : len ≤ kept
-  pub whole : length line ≡ kept
-
-pushed-kept : (r : Run) (b : ℕ) → KeptLine (r .line) (r .len) → KeptLine (pushed r b .line) (pushed r b .len)
-pushed-kept r b h = pick (ltb (r .len) kept) refl
-  where
-    pick : (t : Bool) → ltb (r .len) kept ≡ t → KeptLine (cond t (set (r .line) (r .len) b) (r .line)) (cond t (r .len + 1) (r .len))
-    pick true e = let k : r .len < kept = ltb-true (r .len) kept e in record { short = omega arith; whole = simp length-set (h .whole) }
-    pick false e = h
-
-next-kept : (s : List ℕ) (r : Run) (i : ℕ) → KeptLine (r .line) (r .len) → KeptLine (nextOf (r .line) (r .len) i s .line) (nextOf (r .line) (r .len) i s .len)
-unfolding nextOf
-next-kept [] r i h = h
-next-kept (b ∷ s) r i h = pick (eqb b 10) _ (next-kept s (pushed r b) (i + 1) (pushed-kept r b h))
-  where
-    pick :
-        (t : Bool) (n : Next) → KeptLine (n .line) (n .len)
-        → (let m : Next = cond t (record { line = r .line; len = r .len; read = i + 1; ended = true }) n in KeptLine (m .line) (m .len))
-    pick true n x = h
-    pick false n x = x
-
-outcome : (s : List ℕ) (r : Run) (i : ℕ) → Outcome r i s (nextOf (r .line) (r .len) i s)
-unfolding nextOf runs step
-outcome [] r i = none refl (record { all = omega arith; run = refl })
-outcome (b ∷ s) r i = pick (eqb b 10) refl (outcome s (pushed r b) (i + 1))
-  where
-    over : (m : Next) → Outcome (pushed r b) (i + 1) s m → runs r (b ∷ s) ≡ runs (pushed r b) s → Outcome r i (b ∷ s) m
-    over m (none e x) q = none e (record { all = omega (arith, x .all); run = q ∙ x .run })
-    over m (one e x) q = one e (record { more = omega (arith, x .more); within = omega (arith, x .within); run = on })
-      where
-        on : (k : ℕ) → m .read ≡ i + k → runs r (b ∷ s) ≡ runs (told r (lineOf (take (m .len) (m .line)))) (drop k (b ∷ s))
-        on zero z = absurd (omega (arith, x .more))
-        on (suc k) z = q ∙ x .run k (omega arith)
-
-    first : eqb b 10 ≡ true → (k : ℕ) → i + 1 ≡ i + k → runs r (b ∷ s) ≡ runs (ended r) (drop k (b ∷ s))
-    first q zero z = absurd (omega arith)
-    first q (suc k) z = let e : k ≡ 0 = omega arith in rw (q, e)
-
-    pick :
-        (t : Bool) → eqb b 10 ≡ t → Outcome (pushed r b) (i + 1) s (nextOf (pushed r b .line) (pushed r b .len) (i + 1) s)
-        → Outcome r i (b ∷ s)
-        (cond t (record { line = r .line; len = r .len; read = i + 1; ended = true }) (nextOf (pushed r b .line) (pushed r b .len) (i + 1) s))
-    pick true q o = one refl (record { more = omega arith; within = omega arith; run = first q })
-    pick false q o = over (nextOf (pushed r b .line) (pushed r b .len) (i + 1) s) o (run-on r b s q)
-
-module _ (s : List ℕ) (r : Run) (i : ℕ) (n : Next) (e : n ≡ nextOf (r .line) (r .len) i s) where
-  pub kept-on : KeptLine (r .line) (r .len) → KeptLine (n .line) (n .len)
-  kept-on h = rw e (next-kept s r i h)
-
-  at : Outcome r i s n
-  at = rw e (outcome s r i)
-
-  pub unended : n .ended ≡ false → Unended r i s n
-  unended q = pick at
+  run-by-byte :
+      (line : List ℕ) (len b : ℕ) (s : List ℕ) → KeptLine line len
+      → run-of line len (b ∷ s) ≡ cond (eqb b 10) (run-after (take len line) s) (run-of (pushedLine line len b) (pushedLen len) s)
+  unfolding runs step
+  run-by-byte line len b s h = pick (eqb b 10)
     where
-      pick : Outcome r i s n → Unended r i s n
-      pick (none z x) = x
-      pick (one z x) = absurd (true≢false (sym z ∙ q))
-
-  pub line-ended : n .ended ≡ true → Ended r i s n
-  line-ended q = pick at
-    where
-      pick : Outcome r i s n → Ended r i s n
-      pick (none z x) = absurd (true≢false (sym q ∙ z))
-      pick (one z x) = x
+      pick :
+          (t : Bool)
+          → (let q : Run = record { line = line; len = len; machine = r .machine; out = r .out } in
+          runs (cond t (ended q) (pushed q b)) s ≡ cond t (run-after (take len line) s) (run-of (pushedLine line len b) (pushedLen len) s))
+      pick true = refl
+      pick false = refl
 
 -- ---- a chunk that is partly answered
 
@@ -116,6 +57,10 @@ pub stands-within : (chunk : List ℕ) (i : ℕ) → mayStand (drop i chunk) ≡
 stands-within chunk i e =
     let h : width < length chunk - i = rw (← length-drop i chunk) (long (drop i chunk) e) in
     omega arith
+
+runs-none : (r : Run) → runs r [] ≡ r
+unfolding runs
+runs-none r = refl
 
 runs-end : (r : Run) (s : List ℕ) (i : ℕ) → length s ≤ i → runs r (drop i s) ≡ r
 unfolding runs
@@ -178,12 +123,15 @@ module _
       left : length (drop i chunk) ≡ length chunk - i
       left = length-drop i chunk
 
+      here-kept : KeptLine line len
+      here-kept = record { short = h .short; whole = h .whole }
+
       pub kept-line : KeptLine (n .line) (n .len)
-      kept-line = kept-on (drop i chunk) now i n e (record { short = h .short; whole = h .whole })
+      kept-line = kept-on (drop i chunk) line len i n e here-kept
 
       pub no-line : n .ended ≡ false → (i < n .read) × At chunk out₀ end ts ss fs out (n .line) (n .len) s w (n .read)
       no-line q =
-          let x = unended (drop i chunk) now i n e q in
+          let x = unended (run-of now) (run-after now) (run-by-byte now) (drop i chunk) line len i here-kept n e q in
           let z : n .read ≡ length chunk = omega (arith, x .all, left, m) in (
             omega (arith, z, m),
             record {
@@ -194,13 +142,13 @@ module _
               room = omega (arith, z, m, h .room);
               rest = h .rest;
               reading = h .reading;
-              same = h .same ∙ x .run ∙ sym (runs-end _ chunk (n .read) (omega (arith, z)));
+              same = h .same ∙ x .comes ∙ runs-none _ ∙ sym (runs-end _ chunk (n .read) (omega (arith, z)));
             },
           )
 
       module _ (q : n .ended ≡ true) where
-        x : Ended now i (drop i chunk) n
-        x = line-ended (drop i chunk) now i n e q
+        x : Ended (runs now (drop i chunk)) (run-after now (take (n .len) (n .line))) i (drop i chunk) n
+        x = line-ended (run-of now) (run-after now) (run-by-byte now) (drop i chunk) line len i here-kept n e q
 
         pub line-more : i < n .read
         line-more = x .more
@@ -211,7 +159,7 @@ module _
         pub line-run : runs now (drop i chunk) ≡ runs (told now (lineOf (take (n .len) (n .line)))) (drop (n .read) chunk)
         line-run =
             let k : n .read ≡ i + (n .read - i) = omega (arith, x .more) in
-            x .run (n .read - i) k ∙ rw (drop-drop, ← k)
+            x .comes (n .read - i) k ∙ rw (drop-drop, ← k)
 
 -- from w and i on to w' and i'
 pub go-on :

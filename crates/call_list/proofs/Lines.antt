@@ -42,7 +42,7 @@ at-end line len s i h = rw (drop-of-length-le s h)
 
 -- ---- a whole line
 
-pub run-on : (r : Run) (b : ℕ) (s : List ℕ) → eqb b 10 ≡ false → runs r (b ∷ s) ≡ runs (pushed r b) s
+run-on : (r : Run) (b : ℕ) (s : List ℕ) → eqb b 10 ≡ false → runs r (b ∷ s) ≡ runs (pushed r b) s
 unfolding runs step
 run-on r b s e = rw e
 

@@ -1,103 +1,50 @@
 -- Fed in any chunks, the program writes the answers to the lines of the whole input. Assumes nothing.
-use Prim.Native.Nat.{ℕ, zero, suc, _+_, _*_, _/_, _≤_, _<_, min}
+use Prim.Native.Nat.{ℕ, zero, suc, _+_, _*_, _/_, _≤_, _<_}
 use mathlib.Core.Path.{_≡_, refl, sym, ap, _∙_}
 use mathlib.Core.Bool.{Bool, true, false, cond}
 use mathlib.Core.List.{List, [], _∷_, _++_, append-assoc, append-nil}
-use native.Mathlib.Decide.{decLe}
-use native.Mathlib.Numerals.{add-one}
 use native.Mathlib.Omega.{arith}
-use borrow.Author.Tests.{eq-eqb, ne-eqb, ltb-true, ltb-false}
+use borrow.Author.Tests.{eq-eqb, ne-eqb, ltb-true}
 use lib.Dec.{eqb, ltb, lit≤}
-use lib.ListN.{length, take, drop, set, replicate, length-take, length-append, length-set, length-replicate}
-use lib.Seq.{take-append-add, take-nil, take-all, take-append-le, take-suc-set, take-at, length-take-le}
+use lib.ListN.{length, take, drop, replicate, length-replicate}
+use lib.Seq.{take-append-add, take-nil, take-at}
 use Rattle.call_line.specs.Line.{lineOf}
-use Rattle.call_line.proofs.Clear.{other-length}
 use Rattle.call_list.specs.declared.State.{State}
 use Rattle.call_list.specs.declared.Fed.{Fed}
 use Rattle.call_list.specs.Answer.{Machine, readingOf}
 use Rattle.call_list.specs.Feed.{Run, kept, rowWidth, pushedLen, pushed, told, ended, step, runs, finished, startOf, fresh, FedBy, Feeds, Finishes, roomy}
+use Rattle.call_list.proofs.KeptLines.{count, same-line, reads-byte}
+use Rattle.call_list.proofs.KeptLines as line
 use Rattle.call_list.proofs.Laying.{length-row}
 use Rattle.call_list.specs.Whole.{lastLine, linesFrom, linesOf, answeredLine, answerRow, answersTo, joined, none, freshMachine, answers}
 use Rattle.call_list.specs.Whole.{Reached, started, fed, Program}
 use Rattle.call_list.specs.Whole.{ended as whole-input}
 use Rattle.call_list.proofs.Feeding.{room-yes}
 
--- ---- a line's first bytes
-
--- the bytes that are kept say what the line says
-cut-line : (l : List ℕ) → lineOf (take kept l) ≡ lineOf l
-cut-line l = pick (decLe (length l) kept)
-  where
-    pick : Dec (length l ≤ kept) → lineOf (take kept l) ≡ lineOf l
-    pick (yes h) = ap lineOf (take-all kept l h)
-    pick (no n) =
-        other-length (take kept l) (λ e. omega (arith, n, length-take kept l)) ∙ sym (other-length l (λ e. omega (arith, n)))
-
 -- ---- a run in the middle of a line
 
 -- the run r has read l of the present line
-record Reads (r : Run) (l : List ℕ) : Type 0 where
-  short : r .len ≤ kept
-  places : length (r .line) ≡ kept
-  text : take (r .len) (r .line) ≡ take kept l
-
--- how much that is
-count : (r : Run) (l : List ℕ) → Reads r l → r .len ≡ min kept (length l)
-count r l h =
-    sym (length-take-le (r .len) (r .line) (omega (arith, h .short, h .places))) ∙ ap length (h .text) ∙ length-take kept l
-
-same-line : (r : Run) (l : List ℕ) → Reads r l → lineOf (take (r .len) (r .line)) ≡ lineOf l
-same-line r l h = ap lineOf (h .text) ∙ cut-line l
-
--- a byte more
-reads-byte : (r : Run) (l : List ℕ) (b : ℕ) → Reads r l → Reads (pushed r b) (l ++ (b ∷ []))
-reads-byte r l b h = pick (ltb (r .len) kept) refl
-  where
-    pick :
-        (t : Bool) → ltb (r .len) kept ≡ t
-        → Reads
-        (record {
-          line = cond t (set (r .line) (r .len) b) (r .line);
-          len = cond t (r .len + 1) (r .len);
-          machine = r .machine;
-          out = r .out;
-        })
-        (l ++ (b ∷ []))
-    pick true e =
-        let k : r .len < kept = ltb-true (r .len) kept e in
-        let m : length l < kept = omega (arith, count r l h) in
-        record {
-          short = omega arith;
-          places = length-set (r .line) (r .len) b ∙ h .places;
-          text =
-              rw (add-one)
-              (take-suc-set (r .line) (r .len) b (omega (arith, h .places))
-              ∙ ap (λ (x : List ℕ). x ++ (b ∷ [])) (h .text ∙ take-all kept l (omega arith))
-              ∙ sym (take-all kept (l ++ (b ∷ [])) (omega (arith, length-append l (b ∷ [])))));
-        }
-    pick false e =
-        let k : kept ≤ r .len = ltb-false (r .len) kept e in
-        let m : kept ≤ length l = omega (arith, count r l h) in
-        record { short = h .short; places = h .places; text = h .text ∙ sym (take-append-le kept l (b ∷ []) m) }
+abbrev Reads : Run → List ℕ → Type 0
+Reads r l = line.Reads (r .line) (r .len) l
 
 -- its end
 module _ (r : Run) (l : List ℕ) (h : Reads r l) where
   ended-is : ended r ≡ told r (lineOf l)
-  ended-is = ap (told r) (same-line r l h)
+  ended-is = ap (told r) (same-line (r .line) (r .len) l h)
 
   told-out : told r (lineOf l) .out ≡ r .out ++ answerRow (answeredLine (r .machine) l)
   told-out = refl
 
   told-reads : Reads (told r (lineOf l)) []
-  told-reads = record { short = omega arith; places = refl; text = refl }
+  told-reads = record { held = record { short = omega arith; whole = refl }; text = refl }
 
 -- ---- byte by byte, and line by line
 
 last-out : (r : Run) (l : List ℕ) → Reads r l → finished r .out ≡ r .out ++ joined (answersTo (r .machine) (lastLine l))
 unfolding lastLine answersTo joined
-last-out r [] h = let z : r .len ≡ 0 = omega (arith, count r [] h) in simp (eq-eqb _ _ z) (sym (append-nil (r .out)))
+last-out r [] h = let z : r .len ≡ 0 = omega (arith, count (r .line) (r .len) [] h) in simp (eq-eqb _ _ z) (sym (append-nil (r .out)))
 last-out r (b ∷ l) h =
-    let z : r .len ≡ 0 → ⊥ = λ e. omega (arith, count r (b ∷ l) h) in
+    let z : r .len ≡ 0 → ⊥ = λ e. omega (arith, count (r .line) (r .len) (b ∷ l) h) in
     simp (ne-eqb _ _ z)
     (ap (λ (x : Run). x .out) (ended-is r (b ∷ l) h) ∙ told-out r (b ∷ l) h
     ∙ ap (λ (x : List ℕ). r .out ++ x) (sym (append-nil (answerRow (answeredLine (r .machine) (b ∷ l))))))
@@ -118,7 +65,7 @@ flow (b ∷ s) r l h = pick (flow s) (eqb b 10)
         ∙ ih (told r (lineOf l)) [] (told-reads r l h)
         ∙ ap (λ (x : List ℕ). x ++ joined (answersTo (answeredLine (r .machine) l .machine) (linesFrom [] s))) (told-out r l h)
         ∙ append-assoc (r .out) (answerRow (answeredLine (r .machine) l)) (joined (answersTo (answeredLine (r .machine) l .machine) (linesFrom [] s)))
-    pick ih false = ih (pushed r b) (l ++ (b ∷ [])) (reads-byte r l b h)
+    pick ih false = ih (pushed r b) (l ++ (b ∷ [])) (reads-byte (r .line) (r .len) l b h)
 
 -- ---- chunk by chunk
 
@@ -162,7 +109,7 @@ module _ (f : Fed) (ts ss fs out out₀ : List ℕ) (r : Run) (b : FedBy f ts ss
   next-is : startOf (f .state) ts ss fs ≡ cleared r
   next-is = rw (b .state, b .times, b .sizes, b .flags)
 
-joined-append : (cs : List (List ℕ)) (c : List ℕ) → joined (cs ++ (c ∷ [])) ≡ joined cs ++ c
+pub joined-append : (cs : List (List ℕ)) (c : List ℕ) → joined (cs ++ (c ∷ [])) ≡ joined cs ++ c
 unfolding joined
 joined-append [] c = append-nil c
 joined-append (b ∷ cs) c = ap (λ (x : List ℕ). b ++ x) (joined-append cs c) ∙ sym (append-assoc b (joined cs) c)
@@ -190,7 +137,7 @@ runs-to (fed {chunks = cs} {w = w} {p = p} {ts = ts} {ss = ss} {fs = fs} f ts' s
 -- the whole input's answers, byte by byte
 whole : (input : List ℕ) → answers input ≡ finished (runs start input) .out
 unfolding answers
-whole input = sym (flow input start [] (record { short = omega arith; places = refl; text = refl }))
+whole input = sym (flow input start [] (record { held = record { short = omega arith; whole = refl }; text = refl }))
 
 -- "The program reads a call list from standard input": however the input is cut into chunks, what is written is the answers to its lines
 pub in-chunks : (chunks : List (List ℕ)) (w : List ℕ) → Program chunks w → w ≡ answers (joined chunks)

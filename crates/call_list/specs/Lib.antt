@@ -3,3 +3,4 @@ pub mod Split
 pub mod Feed
 pub mod Pieces
 pub mod Whole
+pub mod Made

@@ -1,8 +1,8 @@
--- The pieces that `feed` is made of. Definitions only.
+-- The pieces that `feed` is made of, `read_on` among them. Definitions only.
 use Prim.Native.Nat.{ℕ, _+_, _*_, _≤_}
 use mathlib.Core.Path.{_≡_}
 use mathlib.Core.Bool.{Bool, true, false, cond, _&&_}
-use mathlib.Core.List.{List, [], _∷_, _++_}
+use mathlib.Core.List.{List, [], _∷_}
 use lib.Dec.{eqb, ltb}
 use lib.ListN.{length, take, drop, getD}
 use Rattle.loss_controller.specs.declared.ControllerAnswer.{ControllerAnswer}
@@ -69,7 +69,3 @@ pub record At (chunk out₀ : List ℕ) (end : Run) (ts ss fs out line : List �
   pub rest : drop w out ≡ drop w out₀
   pub reading : s .reading ≡ readingOf (s .controller)
   pub same : end ≡ runs (here line len s ts ss fs (take w out)) (drop i chunk)
-
--- s with the bytes p from index `from` on
-abbrev pub laid : ℕ → List ℕ → List ℕ → List ℕ
-laid from p s = take from s ++ (p ++ drop (from + length p) s)

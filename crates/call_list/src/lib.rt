@@ -6,6 +6,7 @@ ghost use Prim.Native.Nat.{_+_, _-_, _*_, _≤_};
 ghost use mathlib.Core.List.{_++_};
 ghost use lib.ListN.{length, take, drop};
 ghost use Rattle.loss_controller.specs.Setters.{rateOf};
+ghost use Rattle.buffer.specs.Laid.{laid};
 ghost use Rattle.call_line.specs.Column.{column};
 ghost use Rattle.call_line.specs.Line.{lineOf};
 ghost use Rattle.call_list.specs.Answer as Answers;
@@ -30,7 +31,7 @@ pub const KEPT: usize = call_line::LINE_WIDTH + 1;
 // An answer's columns: refusal, state, published, rate and inherent loss
 const WIDTHS: [usize; 5] = [2, 2, 2, 20, 20];
 
-const REFUSAL_WIDTH: usize = WIDTHS[0];
+pub const REFUSAL_WIDTH: usize = WIDTHS[0];
 
 // Those after the refusal: where each ends, and the newline
 const STATE_END: usize = WIDTHS[1];
@@ -382,7 +383,7 @@ fn answer_line(
 // A number in the columns of out from `from` up to `to`.
 fn put_column(out: &mut [u8], from: usize, to: usize, n: u64)
     requires { ⌜ (from ≤ to) × (to ≤ length (now out)) ⌝ }
-    ensures { λ _. ⌜ now (out .exit) ≡ Pieces.laid from (column (to - from) n) (now (out .entry)) ⌝ }
+    ensures { λ _. ⌜ now (out .exit) ≡ laid from (column (to - from) n) (now (out .entry)) ⌝ }
 {
     call_line::write_number(&mut out[from..to], n);
 }
@@ -412,7 +413,7 @@ fn text(reading: Reading) -> [u8; TEXT]
 // A refusal and the columns after it, in out from w on.
 fn put_row(refusal: u8, text: &[u8], out: &mut [u8], w: usize)
     requires { ⌜ (length (now text) ≡ Answers.textWidth) × (w + Feeding.rowWidth ≤ length (now out)) ⌝ }
-    ensures { λ _. ⌜ now (out .exit) ≡ Pieces.laid w (Answers.inColumn 0 refusal ++ now (text .entry)) (now (out .entry)) ⌝ }
+    ensures { λ _. ⌜ now (out .exit) ≡ laid w (Answers.inColumn 0 refusal ++ now (text .entry)) (now (out .entry)) ⌝ }
 {
     put_column(out, w, w + REFUSAL_WIDTH, refusal as u64);
     let mut k = 0;
@@ -425,7 +426,7 @@ fn put_row(refusal: u8, text: &[u8], out: &mut [u8], w: usize)
 // An answer, in out from w on.
 fn put_answer(answer: Answer, out: &mut [u8], w: usize)
     requires { ⌜ w + Feeding.rowWidth ≤ length (now out) ⌝ }
-    ensures { λ _. ⌜ now (out .exit) ≡ Pieces.laid w (Answers.rowOf (answer .refusal) (answer .reading)) (now (out .entry)) ⌝ }
+    ensures { λ _. ⌜ now (out .exit) ≡ laid w (Answers.rowOf (answer .refusal) (answer .reading)) (now (out .entry)) ⌝ }
 {
     let reading = answer.reading;
     let row = text(reading);
@@ -436,16 +437,15 @@ fn put_answer(answer: Answer, out: &mut [u8], w: usize)
 
 // The bytes of the line that are kept, how much of the chunk is read, and whether the line ended
 // there.
-struct Next {
-    line: [u8; KEPT],
-    len: usize,
-    read: usize,
-    ended: bool,
+pub struct Next {
+    pub line: [u8; KEPT],
+    pub len: usize,
+    pub read: usize,
+    pub ended: bool,
 }
 
 // Byte by byte, up to the newline or the end of the chunk.
-fn read_on(line: [u8; KEPT], len: usize, chunk: &[u8], from: usize) -> Next
-    requires { ⌜ (len ≤ Feeding.kept) × (from ≤ length (now chunk)) ⌝ }
+pub fn read_on(line: [u8; KEPT], len: usize, chunk: &[u8], from: usize) -> Next
     ensures { λ r. ⌜ r ≡ Pieces.nextOf line len from (drop from (now (chunk .entry))) ⌝ }
 {
     let mut line = line;

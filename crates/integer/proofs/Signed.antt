@@ -80,6 +80,13 @@ refusal = record { value = pos 0; refusal = 7 }
 pub read-is : {z : ℤ} → SFits w64 z → read z ≡ z
 read-is {z} f = toZ-ofZ w64 z f
 
+-- a number is 0 where its bits are
+pub is-zero : {z : ℤ} → SFits w64 z → ofZ w64 z ≡ 0 → z ≡ pos 0
+is-zero f e = sym (read-is f) ∙ ap (toZ w64) e
+
+pub not-zero : {z : ℤ} → (ofZ w64 z ≡ 0 → ⊥) → z ≡ pos 0 → ⊥
+not-zero n e = n (ap (ofZ w64) e)
+
 pub in-fits : {z : ℤ} → inI64 z ≡ true → SFits w64 z
 unfolding inI64
 in-fits {z} h = record { sfits = ltb-true (mag z) (2 ^ 63) h }

@@ -11,7 +11,7 @@ pub type PacketSize = u16;
 pub const MOST_PACKETS_IN_REPORT: usize = 4_096;
 
 // A `PacketSize`'s largest value
-const LARGEST_PACKET: u64 = 65_535;
+pub const LARGEST_PACKET: u64 = 65_535;
 
 // 4 * 10^18 ns
 pub const LATEST_TIME: u64 = 4_000_000_000_000_000_000;

@@ -3,8 +3,8 @@ use mathlib.Core.Path.{_≡_, refl}
 use borrow.Author.Needs.{needs}
 use lib.ListN.{length}
 use Rattle.io.specs.Counts.{clamped}
-use Rattle.integer.proofs.Signed.{read-is}
-use Rattle.answer.proofs.Turns.{is-zero, not-zero, turn-failed, turn-fed}
+use Rattle.integer.proofs.Signed.{read-is, is-zero, not-zero}
+use Rattle.answer.proofs.Turns.{turn-failed, turn-fed}
 use Rattle.answer.proofs.take_turn.Statement.{statement}
 use Rattle.answer.proofs.take_turn.Tie as tie
 

@@ -11,7 +11,8 @@ use Rattle.call_list.specs.declared.State.{State}
 use Rattle.call_list.specs.Answer.{rowOf}
 use Rattle.call_list.specs.Feed.{Run, width, rowWidth, blank, runs, startOf}
 use Rattle.call_list.specs.Pieces.{At}
-use Rattle.call_list.proofs.Feeding.{KeptLine, kept-line, row-fits, one-line, no-line, line-more, line-within, line-run, go-on, all-read}
+use Rattle.call_list.proofs.KeptLines.{KeptLine}
+use Rattle.call_list.proofs.Feeding.{kept-line, row-fits, one-line, no-line, line-more, line-within, line-run, go-on, all-read}
 use Rattle.call_list.proofs.feed_all.Statement.{statement}
 use Rattle.call_list.proofs.feed_all.Tie as tie
 
@@ -64,7 +65,7 @@ loop-holds c =
     }
 
 read-on-requires : tie.Need-read-on-requires Inv-loop μ-loop
-read-on-requires c κs = (c .before .loop .inv .short, c .before .loop .inv .read)
+read-on-requires c κs = search needs
 
 -- ---- the line that ended
 

@@ -1,5 +1,5 @@
 use borrow.Author.Needs.{needs}
-use Rattle.call_list.proofs.Laying.{mid-laid}
+use Rattle.call_line.proofs.Written.{column-laid}
 use Rattle.call_list.proofs.put_column.Statement.{statement}
 use Rattle.call_list.proofs.put_column.Tie as tie
 
@@ -21,7 +21,7 @@ same-length c = search needs
 returns : tie.Need-returns
 returns c =
     let a = c .before .before .before .before .before in
-    mid-laid (a .args .from) (a .args .to) (a .args .n) (a .args .out .now) _ (a .pre .0) (a .pre .1) (c .before .before .write-number .ensures)
+    column-laid (a .args .from) (a .args .to) (a .args .n) (a .args .out .now) _ (a .pre .0) (a .pre .1) (c .before .before .write-number .ensures)
 
 pub put-column-spec : {M : Type 1} → statement M
 put-column-spec =

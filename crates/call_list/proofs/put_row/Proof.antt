@@ -4,8 +4,8 @@ use lib.Seq.{take-suc, take-all, length-take-le}
 use native.Mathlib.Nat.{add-zero}
 use native.Mathlib.Numerals.{add-one}
 use Rattle.call_list.specs.Answer.{textWidth}
-use Rattle.call_list.specs.Pieces.{laid}
-use Rattle.call_list.proofs.Laying.{byte-laid, laid-twice}
+use Rattle.buffer.specs.Laid.{laid}
+use Rattle.buffer.proofs.Laying.{byte-laid, laid-twice}
 use Rattle.call_line.specs.Column.{column}
 use lib.ListN.{length, getD, take, drop, length-set, take-append-drop}
 use mathlib.Core.List.{[], _∷_, _++_}
