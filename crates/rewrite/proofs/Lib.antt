@@ -1,0 +1,4 @@
+pub mod Texts
+pub mod Rewriting
+pub mod Chunks
+pub mod Accepted

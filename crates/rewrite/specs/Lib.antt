@@ -1,0 +1,3 @@
+pub mod Rewrite
+pub mod Program
+mod Examples
