@@ -1,5 +1,6 @@
 //! Runs a program on fresh call lists beside the oracle and compares every byte. The first
-//! difference is shrunk to a short list and printed. Usage: compare [LISTS [SEED]] -- COMMAND..
+//! difference is shrunk to a short list and printed. Usage: compare [--rewrite] [LISTS [SEED]] -- COMMAND..
+//! With --rewrite the program is one that writes the lists anew, as `rewrite` does.
 //!
 //! Exit status: 0 if all agree, 1 if a list differs, 2 if the comparison cannot be made.
 
@@ -14,6 +15,7 @@ mod answer_line;
 #[allow(dead_code)]
 mod bandwidth;
 mod bwe;
+mod call_line;
 mod instant;
 #[allow(dead_code)]
 mod kinds;
@@ -29,12 +31,17 @@ struct Settings {
     lists: u64,
     seed: u64,
     command: Vec<String>,
+    oracle: fn(&[u8]) -> Vec<u8>,
 }
 
 fn settings() -> Option<Settings> {
     let arguments: Vec<String> = env::args().skip(1).collect();
     let split = arguments.iter().position(|argument| argument == "--")?;
-    let numbers: Result<Vec<u64>, _> = arguments[..split].iter().map(|text| text.parse()).collect();
+    let (numbers, oracle): (_, fn(&[u8]) -> Vec<u8>) = match &arguments[..split] {
+        [option, numbers @ ..] if option == "--rewrite" => (numbers, rewritten),
+        numbers => (numbers, answered),
+    };
+    let numbers: Result<Vec<u64>, _> = numbers.iter().map(|text| text.parse()).collect();
     let (lists, seed) = match *numbers.ok()? {
         [] => (1_000, 1),
         [lists] => (lists, 1),
@@ -43,13 +50,19 @@ fn settings() -> Option<Settings> {
     };
     let command = arguments[split + 1..].to_vec();
     // A comparison of no list would always agree.
-    (lists != 0 && !command.is_empty()).then_some(Settings { lists, seed, command })
+    (lists != 0 && !command.is_empty()).then_some(Settings { lists, seed, command, oracle })
 }
 
-fn oracle(list: &[u8]) -> Vec<u8> {
+fn answered(list: &[u8]) -> Vec<u8> {
     let mut program = bwe::call_list::Program::new();
     let mut out = vec![];
     stream::run(list, &mut out, |line| program.answer(line)).expect("a Vec grows");
+    out
+}
+
+fn rewritten(list: &[u8]) -> Vec<u8> {
+    let mut out = vec![];
+    stream::run(list, &mut out, line::read).expect("a Vec grows");
     out
 }
 
@@ -73,8 +86,8 @@ fn run(command: &[String], list: &[u8]) -> io::Result<Vec<u8>> {
     Ok(answers)
 }
 
-fn differs(command: &[String], list: &[u8]) -> io::Result<bool> {
-    Ok(run(command, list)? != oracle(list))
+fn differs(settings: &Settings, list: &[u8]) -> io::Result<bool> {
+    Ok(run(&settings.command, list)? != (settings.oracle)(list))
 }
 
 fn show(what: &str, text: &[u8]) {
@@ -86,19 +99,18 @@ fn show(what: &str, text: &[u8]) {
 }
 
 fn compare(settings: &Settings) -> io::Result<bool> {
-    let command = &settings.command;
     let mut lines = 0;
     for seed in settings.seed..settings.seed + settings.lists {
         let (kind, list) = kinds::any(seed);
         lines += list.iter().filter(|&&byte| byte == b'\n').count();
-        if !differs(command, &list)? {
+        if !differs(settings, &list)? {
             continue;
         }
         println!("a difference: generate {kind} {seed}");
-        let short = shrink::shrink(&list, |list| differs(command, list))?;
+        let short = shrink::shrink(&list, |list| differs(settings, list))?;
         show("shortest list found", &short);
-        show("the oracle's answers", &oracle(&short));
-        show("the command's answers", &run(command, &short)?);
+        show("the oracle's answers", &(settings.oracle)(&short));
+        show("the command's answers", &run(&settings.command, &short)?);
         return Ok(false);
     }
     println!("{} lists from seed {}, {lines} lines: no difference", settings.lists, settings.seed);
@@ -107,7 +119,7 @@ fn compare(settings: &Settings) -> io::Result<bool> {
 
 fn main() -> ExitCode {
     let Some(settings) = settings() else {
-        eprintln!("usage: compare [LISTS [SEED]] -- COMMAND..");
+        eprintln!("usage: compare [--rewrite] [LISTS [SEED]] -- COMMAND..");
         return ExitCode::from(2);
     };
     match compare(&settings) {

@@ -7,6 +7,23 @@ use crate::line::LINE_LENGTH;
 
 const CHUNK: usize = 1 << 16;
 
+/// What a line is answered by, and its text with the newline.
+pub trait Reply: Copy + PartialEq {
+    type Text: AsRef<[u8]>;
+
+    fn text(&self) -> Self::Text;
+}
+
+impl Reply for Answer {
+    type Text = [u8; ANSWER_LENGTH + 1];
+
+    fn text(&self) -> Self::Text {
+        let mut text = [0; ANSWER_LENGTH + 1];
+        self.write(&mut text);
+        text
+    }
+}
+
 /// The start of a line that goes on in the next chunk. One byte more than a line has is enough to
 /// know that it is too long.
 #[derive(Default)]
@@ -29,20 +46,22 @@ impl Begun {
 }
 
 /// The last answer's text: most lines only queue a packet and leave all but the refusal as it was.
-struct Writer<W> {
+struct Writer<W, R: Reply> {
     out: W,
-    last: Option<Answer>,
-    text: [u8; ANSWER_LENGTH + 1],
+    last: Option<R>,
+    text: Option<R::Text>,
     full: Vec<u8>,
 }
 
-impl<W: Write> Writer<W> {
-    fn put(&mut self, answer: Answer) -> io::Result<()> {
+impl<W: Write, R: Reply> Writer<W, R> {
+    fn put(&mut self, answer: R) -> io::Result<()> {
         if self.last != Some(answer) {
-            answer.write(&mut self.text);
+            self.text = Some(answer.text());
             self.last = Some(answer);
         }
-        self.full.extend_from_slice(&self.text);
+        if let Some(text) = &self.text {
+            self.full.extend_from_slice(text.as_ref());
+        }
         if self.full.len() >= CHUNK {
             self.flush()?;
         }
@@ -56,15 +75,14 @@ impl<W: Write> Writer<W> {
     }
 }
 
-pub fn run(
+pub fn run<R: Reply>(
     mut input: impl Read,
     output: impl Write,
-    mut answer: impl FnMut(&[u8]) -> Answer,
+    mut answer: impl FnMut(&[u8]) -> R,
 ) -> io::Result<()> {
     let mut chunk = vec![0; CHUNK];
     let mut begun = Begun::default();
-    let mut writer =
-        Writer { out: output, last: None, text: [0; ANSWER_LENGTH + 1], full: Vec::new() };
+    let mut writer = Writer { out: output, last: None, text: None, full: Vec::new() };
     loop {
         let length = input.read(&mut chunk)?;
         if length == 0 {
