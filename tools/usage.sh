@@ -20,12 +20,14 @@ says() {
     fi
 }
 says 0 'usage: ./falghenti COMMAND' --help
-says 0 'usage: ./falghenti answer' answer --help
 says 2 'a command is missing'
 says 2 "there is no command 'play'" play
-says 2 'answer takes no option -v' answer -v
-says 2 'answer takes one list, not 2' answer README.md NOTICE
-says 2 'there is no file no-such-list' answer no-such-list
-says 2 'docs is a directory' answer docs
+for command in answer make rewrite; do
+    says 0 "usage: ./falghenti $command" "$command" --help
+    says 2 "$command takes no option -v" "$command" -v
+    says 2 "$command takes one" "$command" README.md NOTICE
+    says 2 'there is no file no-such-list' "$command" no-such-list
+    says 2 'docs is a directory' "$command" docs
+done
 says 2 '--version takes no argument' --version answer
 echo "./falghenti: usage and refusals as documented"
