@@ -114,9 +114,11 @@ returns-3 c =
     let v = l .before .values in
     let k : l .loop .k ≡ 4 = omega arith in
     let f : l .loop .from ≡ total widths = l .loop .inv .1 ∙ ap (start widths) k in
+    let all = subst (FirstColumns (out₀ l) (v .result) (l .loop .out)) k (l .loop .inv .3) in
     accepted _ (out₀ l) _ (of-type _ (v .result) _ _ (v .ensures) (v .ok))
     (sym (l .before .before .before .if1 .left) ∙ l .before .before .before .before .call-refusal .ensures) (room l)
-    (ap (λ (n : ℕ). set (l .loop .out) n asciiNewline) f ∙ newline-laid (out₀ l) (v .result) (l .loop .out) (four l) (room l) (subst (FirstColumns (out₀ l) (v .result) (l .loop .out)) k (l .loop .inv .3))
+    (ap (λ (n : ℕ). set (l .loop .out) n asciiNewline) f
+    ∙ newline-laid (out₀ l) (v .result) (l .loop .out) (four l) (room l) all
     ∙ ap (λ (ns : List ℕ). (row widths ns ++ (asciiNewline ∷ [])) ++ drop lineBytes (out₀ l)) (v .ensures))
 
 pub write-line-spec : {M : Type 1} → statement M
