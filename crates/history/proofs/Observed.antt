@@ -15,7 +15,7 @@ use Rattle.time.specs.declared.TimeDelta.{TimeDelta}
 use Rattle.time.specs.declared.Timestamp.the-variants.{Exact}
 use Rattle.packets.specs.Summary.{packets, refused, summaryOf}
 use Rattle.packets.specs.declared.PacketResultsSummary.{PacketResultsSummary}
-use Rattle.packets.proofs.Totals.{flag-small, lost-part, summary-holds}
+use Rattle.packets.proofs.Totals.{packet-taken, lost-part, summary-holds}
 use Rattle.observation.specs.Partial as Partial
 use Rattle.observation.specs.Ratio as Ratio
 use Rattle.observation.specs.Window as Window
@@ -43,7 +43,7 @@ pub record Parted (s : PacketResultsSummary) : Type 0 where
 pub summary-parted : (times sizes flags : List ℕ) → Parted (summaryOf times sizes flags .summary)
 summary-parted =
     summary-holds Parted (record { packets = omega arith; bytes = omega arith })
-    (λ s p e k. record { packets = omega (arith, k .packets, flag-small p e); bytes = omega (arith, k .bytes, lost-part p e) })
+    (λ s p e k. record { packets = omega (arith, k .packets, packet-taken p e .flag-small); bytes = omega (arith, k .bytes, lost-part p e) })
 
 -- ---- a new observation
 

@@ -1,10 +1,11 @@
 -- The claims, as tests, on short lists: those that the must-fail edits of this crate name, where the conditions are met and each edit makes its test
--- false on its list (tools/refute.py), and one in which all bytes are lost. No proof cites it. Assumes nothing.
+-- false on its list (tools/refute.py), one in which all bytes are lost, and some of full frames (Q-10). No proof cites it. Assumes nothing.
 use Prim.Native.Nat.{ℕ, zero, suc, _+_}
 use mathlib.Core.Path.{_≡_, refl}
 use mathlib.Core.Bool.{true, false}
 use mathlib.Core.List.{List, [], _∷_, _++_}
 use mathlib.Core.Option.{none, some}
+use lib.ListN.{replicate}
 use Rattle.history.specs.Calls.{Call, estimate, alr, report, read}
 use Rattle.history.proofs.Tested.{outcome, untraced, unreached}
 
@@ -17,9 +18,22 @@ packet time lost = report (time ∷ []) (1000 ∷ []) (lost ∷ []) 0x7FF0000000
 refused : Call
 refused = report (7 ∷ []) (1000 ∷ []) (1 ∷ []) 0x8000000000000000
 
--- 10^12 bytes at once, which no packet has, but a longer list reaches; and a packet
+-- so many frames of 9,999,999 bytes that arrived and so many that were lost
+frames : ℕ → ℕ → ℕ → Call
+frames time arrived lost =
+    report (replicate (arrived + lost) time) (replicate (arrived + lost) 9999999) (replicate arrived 0 ++ replicate lost 1) 0x7FF0000000000000
+
+-- 100,000 frames, which are 10^12 bytes but for 100,000
+filled : List Call
+filled = replicate 24 (frames 0 4096 0) ++ (frames 0 1696 0 ∷ [])
+
+-- a packet of so many bytes
+sized : ℕ → Call
+sized bytes = report (0 ∷ []) (bytes ∷ []) (0 ∷ []) 0
+
+-- 10^12 bytes, and a packet
 beyond : List Call
-beyond = report (0 ∷ []) (1000000000000 ∷ []) (0 ∷ []) 0 ∷ packet 1 0 ∷ []
+beyond = filled ++ (sized 100000 ∷ packet 1 0 ∷ [])
 
 -- 10^9 bit/s
 high : Call
@@ -61,13 +75,25 @@ oldest-of-sixteen = refl
 
 -- 10^12 bytes are taken, and the next packet is refused
 at-10-12 : outcome beyond ≡ record { met = true; count = 0; lossy = false }
-unfolding outcome packet beyond
+unfolding outcome packet frames filled sized beyond
 at-10-12 = refl
 
 -- a packet with both a late time and a wrong flag: 3
 late-and-flagged : outcome (report (4000000000000000001 ∷ []) (1 ∷ []) (2 ∷ []) 0 ∷ []) ≡ record { met = true; count = 0; lossy = false }
 unfolding outcome
 late-and-flagged = refl
+
+-- one frame more gets 10, and one that is too large 17
+beyond-and-large : outcome (filled ++ (sized 9999999 ∷ sized 10000000 ∷ [])) ≡ record { met = true; count = 0; lossy = false }
+unfolding outcome frames filled sized
+beyond-and-large = refl
+
+-- two observations of full frames with losses, and a frame of 10,000,000 bytes between them, which is refused and not heard
+full-frames :
+    outcome (frames 0 2 0 ∷ frames 300000000 88 10 ∷ report (560000000 ∷ []) (10000000 ∷ []) (1 ∷ []) 0 ∷ frames 600000000 3072 1024 ∷ high ∷ []) ≡
+    record { met = true; count = 2; lossy = true }
+unfolding outcome frames high
+full-frames = refl
 
 -- ---- lists with refused calls, which leave no trace
 
@@ -91,5 +117,5 @@ all-lost = refl
 
 -- a call that is refused with 10
 past-10-12 : unreached beyond ≡ true
-unfolding unreached packet beyond
+unfolding unreached packet frames filled sized beyond
 past-10-12 = refl

@@ -11,7 +11,7 @@ use Rattle.packets.specs.Summary.{columnsRefusal, packets, packetRefusal, empty
 use Rattle.packets.specs.declared.PacketResult.{PacketResult}
 use Rattle.packets.specs.declared.PacketResultsSummary.{PacketResultsSummary}
 use Rattle.packets.specs.declared.SummaryAnswer.{SummaryAnswer}
-use Rattle.packets.proofs.Totals.{not-refused, flag-small}
+use Rattle.packets.proofs.Totals.{not-refused, packet-taken}
 use Rattle.history.specs.History.{bytesOf, lostOf, latest}
 use Rattle.history.specs.Refusals.{packetsRefusal}
 
@@ -107,7 +107,7 @@ beyond z (t ∷ ts) (b ∷ bs) (flag ∷ fs) e f h =
     (record {
       packets = omega (arith, r .packets);
       bytes = omega (arith, r .bytes);
-      lost = omega (arith, r .lost, lost-is b flag (flag-small p (n .0)));
+      lost = omega (arith, r .lost, lost-is b flag (packet-taken p (n .0) .flag-small));
       last = omega (arith, r .last, later-is (z .«last_send_time») t);
     })
 

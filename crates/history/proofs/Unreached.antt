@@ -13,7 +13,7 @@ use Rattle.float.specs.Answer.{firstRefusal}
 use Rattle.float.specs.Rust.{signBit}
 use Rattle.float.proofs.Refusal.{either}
 use Rattle.bandwidth.specs.declared.Bitrate.{Bitrate}
-use Rattle.packets.specs.Summary.{mostPackets, latestTime, columnsRefusal, packets, packetRefusal}
+use Rattle.packets.specs.Summary.{mostPackets, latestTime, largestPacket, columnsRefusal, packets, packetRefusal}
 use Rattle.packets.specs.declared.PacketResult.{PacketResult}
 use Rattle.loss_controller.specs.Result.{averageReportedLossRatio}
 use Rattle.loss_controller.specs.Setters.{rateOf, mostRate, rateRefusal, capacityRefusal, timeRefusal, startRefusal}
@@ -65,7 +65,9 @@ unfolding packetsRefusal packetRefusal
 packets-not-six [] = literal 0 refl
 packets-not-six (p ∷ ps) =
     first-of (packetRefusal p) (packetsRefusal ps)
-    (either NotSix (leb (p .«local_send_time») latestTime) _ 3 (one-of (leb (p .lost) 1) 0 8 refl refl) (literal 3 refl)) (packets-not-six ps)
+    (either NotSix (leb (p .«local_send_time») latestTime) _ 3
+    (either NotSix (leb (p .size) largestPacket) _ 17 (one-of (leb (p .lost) 1) 0 8 refl refl) (literal 17 refl)) (literal 3 refl))
+    (packets-not-six ps)
 
 state-not-six : (h : History) (count bytes sent : ℕ) → NotSix (stateRefusal h count bytes sent)
 state-not-six h count bytes sent = either NotSix (passes h count bytes) 10 _ (literal 10 refl) (one-of (fills h sent) 11 0 refl refl)

@@ -2,16 +2,20 @@
 use Prim.Native.Nat.{ℕ, zero, suc, _+_, _*_}
 use mathlib.Core.Path.{_≡_, refl}
 use mathlib.Core.Bool.{true, false}
-use mathlib.Core.List.{List, [], _∷_}
+use mathlib.Core.List.{List, [], _∷_, _++_, map}
 use mathlib.Core.Option.{none, some}
-use lib.ListN.{length}
-use lib.Ieee.{le, ofBits}
+use lib.ListN.{length, replicate}
+use lib.Ieee.{le, lt, ofBits, toBits}
 use Rattle.float.specs.Rounded.{bits}
+use Rattle.float.specs.Rust.{signBit}
 use Rattle.logarithm.specs.Ln.{logarithm}
 use Rattle.rounding.specs.Exact.{exactSum}
+use Rattle.packets.specs.Summary.{columnsRefusal, packets, packetRefusal}
+use Rattle.loss_controller.specs.Setters.{rateRefusal}
 use Rattle.history.specs.Calls.{Call, estimate, alr, report, read, Told}
-use Rattle.history.specs.History.{fresh, switched, bytesOf, lostOf, latest, completed, withRunning, withReport, heard, fed, after}
+use Rattle.history.specs.History.{History, fresh, switched, bytesOf, lostOf, latest, completed, withRunning, withReport, heard, fed, after}
 use Rattle.history.specs.WeighedPairs.{aged, weighedLost, weighedBytes, allBytes}
+use Rattle.history.specs.Refusals.{packetsRefusal, reportRefusal, refusalOf}
 use Rattle.history.specs.Unreached.{outsideDomain}
 
 abbrev taken : Call → Told
@@ -79,6 +83,41 @@ weighed :
     × weighedBytes (after (sent 0 0 0 ∷ sent 300000000 990 10 ∷ sent 600000000 90 10 ∷ [])) ≡ 100000000000000000
 unfolding fed heard withReport completed withRunning bytesOf lostOf latest aged exactSum
 weighed = (refl, refl)
+
+-- ---- full frames (Q-10)
+
+-- so many frames of 9,999,999 bytes that arrived and so many that were lost, sent at this time
+abbrev frames : ℕ → ℕ → ℕ → Told
+frames time arrived lost =
+    taken (report (replicate (arrived + lost) time) (replicate (arrived + lost) 9999999) (replicate arrived 0 ++ replicate lost 1) 0)
+
+-- one frame of so many bytes
+abbrev frame : ℕ → Call
+frame size = report (0 ∷ []) (size ∷ []) (0 ∷ []) 0
+
+-- 1,024 of 4,096 frames lost, and before that 10 of 100: r is (1,024 + 9) / (4,096 + 90)
+abbrev full : History
+full = after (frames 0 2 0 ∷ frames 300000000 88 10 ∷ frames 600000000 3072 1024 ∷ [])
+
+full-window :
+    full .pairs ≡ record { bytes = 40959995904; lost = 10239998976 } ∷ record { bytes = 999999900; lost = 99999990 } ∷ []
+    × allBytes (full .pairs) ≡ 41959995804
+    × weighedLost full ≡ 1032999896700000000000000
+    × weighedBytes full ≡ 4185999581400000000000000
+    × 4186 * weighedLost full ≡ 1033 * weighedBytes full
+unfolding fed heard withReport completed withRunning bytesOf lostOf latest aged exactSum allBytes
+full-window = (refl, refl, refl, refl, refl)
+
+-- 100,000 frames, which leave room for 100,000 bytes: the next frame gets 10, and one of 10,000,000 bytes 17
+abbrev filled : History
+filled = after (replicate 24 (frames 0 4096 0) ++ (frames 0 1696 0 ∷ []))
+
+next-frame : filled .running ≡ record { bytes = 999999900000; lost = 0 }
+    × map (λ size. refusalOf filled (frame size)) (100000 ∷ 100001 ∷ 9999999 ∷ 10000000 ∷ []) ≡ 0 ∷ 10 ∷ 10 ∷ 17 ∷ []
+    × map (λ size. refusalOf full (frame size)) (9999999 ∷ 10000000 ∷ []) ≡ 0 ∷ 17 ∷ []
+unfolding fed heard withReport completed withRunning bytesOf lostOf latest refusalOf reportRefusal packetsRefusal columnsRefusal packets packetRefusal
+    rateRefusal signBit lt ofBits toBits
+next-frame = (refl, refl, refl)
 
 -- ---- the number of a refused logarithm
 

@@ -1,18 +1,19 @@
 -- Records summed one by one give what their columns give. Assumes nothing.
 use Prim.Native.Nat.{ℕ, _+_, _≤_, _<_}
-use mathlib.Core.Path.{_≡_, refl, ap, _∙_}
+use mathlib.Core.Path.{_≡_, refl, _∙_}
 use mathlib.Core.Bool.{Bool, true, false, cond}
-use mathlib.Core.List.{List, [], _∷_, foldl}
+use mathlib.Core.List.{List, foldl}
 use native.Mathlib.Omega.{arith}
-use borrow.Author.Tests.{eq-eqb, eqb-true, le-leb, leb-true}
+use borrow.Author.Tests.{eqb-true, le-leb, leb-true}
 use lib.Dec.{eqb, leb}
-use lib.ListN.{length, getD, drop, length-map}
+use lib.ListN.{length, getD, drop}
 use Rattle.float.proofs.Fold.{fold-again, fold-end}
 use Rattle.bandwidth.specs.declared.Bitrate.{Bitrate}
-use Rattle.packets.specs.Summary.{columnsRefusal, packets, refused, addPacket, added, summaryOf, isOfReport, mostPackets, latestTime, largestPacket}
+use Rattle.packets.specs.Summary.{refused, addPacket, added, summaryOf, isOfReport, mostPackets, latestTime}
 use Rattle.packets.specs.declared.PacketResult.{PacketResult}
 use Rattle.packets.specs.declared.SummaryAnswer.{SummaryAnswer}
 use Rattle.packets.proofs.Totals.{TotalsOf, none-within, within-larger, within-more, of-report, added-is, summary-early}
+use Rattle.packets.proofs.Reports.{columns-even, summary-of}
 use Rattle.loss_controller.specs.Controller.{checked}
 use Rattle.loss_controller.specs.Controller as Controller
 use Rattle.loss_controller.specs.Setters.{rateRefusal, timeRefusal}
@@ -38,9 +39,8 @@ pub record Summed (ps : List PacketResult) (i : ℕ) (a : SummaryAnswer) : Type 
 pub summed-none : (ps : List PacketResult) (a : SummaryAnswer) → a ≡ refused 0 → Summed ps 0 a
 summed-none ps a e = rw e (record { within = λ few. none-within 0; passes = λ few. of-report _ (none-within mostPackets); left = λ few. refl })
 
-pub summed-more : (ps : List PacketResult) (i : ℕ) (a r : SummaryAnswer) → i < length ps → getD ps i none .size ≤ largestPacket → r ≡ added a (getD ps i none)
-    → Summed ps i a → Summed ps (i + 1) r
-summed-more ps i a r l size e s =
+pub summed-more : (ps : List PacketResult) (i : ℕ) (a r : SummaryAnswer) → i < length ps → r ≡ added a (getD ps i none) → Summed ps i a → Summed ps (i + 1) r
+summed-more ps i a r l e s =
     record {
       within = more;
       passes = λ few. of-report _ (within-larger _ (omega (arith, few, l)) (more few));
@@ -51,34 +51,11 @@ summed-more ps i a r l size e s =
     is few = e ∙ added-is a _ (within-larger _ (omega (arith, few, l)) (s .within few))
 
     more : length ps ≤ mostPackets → TotalsOf (i + 1) (r .summary)
-    more few = rw (is few) (within-more i a _ size (s .within few))
+    more few = rw (is few) (within-more i a _ (s .within few))
 
 pub summed-all : (ps : List PacketResult) (i : ℕ) (a : SummaryAnswer) → length ps ≤ i → Summed ps i a → length ps ≤ mostPackets
     → (a ≡ summedRecords ps) × (isOfReport (a .summary) ≡ true)
 summed-all ps i a l s few = (fold-end addPacket a (summedRecords ps) ps i l (s .left few), s .passes few)
-
--- ---- the columns
-
--- records have columns of one length
-columns-even : (ps : List PacketResult) → columnsRefusal (times ps) (sizes ps) (flags ps) ≡ cond (leb (length ps) mostPackets) 0 5
-unfolding columnsRefusal
-columns-even ps =
-    simp (
-      length-map ps (λ (p : PacketResult). p .«local_send_time»),
-      length-map ps (λ (p : PacketResult). p .size),
-      length-map ps (λ (p : PacketResult). p .lost),
-      eq-eqb (length ps) (length ps) refl,
-    )
-
--- and tell of those records
-columns-of : (ps : List PacketResult) → packets (times ps) (sizes ps) (flags ps) ≡ ps
-unfolding packets
-columns-of [] = refl
-columns-of (p ∷ ps) = ap (λ (qs : List PacketResult). p ∷ qs) (columns-of ps)
-
-summary-of : (ps : List PacketResult) → length ps ≤ mostPackets → summaryOf (times ps) (sizes ps) (flags ps) ≡ summedRecords ps
-unfolding summaryOf
-summary-of ps few = rw (columns-even ps, le-leb (length ps) mostPackets few, columns-of ps) refl
 
 -- ---- the report
 

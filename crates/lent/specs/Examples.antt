@@ -18,8 +18,8 @@ sent time size flag = record { «local_send_time» = time; size = size; lost = f
 
 -- the columns of two records
 columns :
-    let records = sent 30 100 0 ∷ sent 10 65535 1 ∷ [] in
-    times records ≡ 30 ∷ 10 ∷ [] × sizes records ≡ 100 ∷ 65535 ∷ [] × flags records ≡ 0 ∷ 1 ∷ []
+    let records = sent 30 100 0 ∷ sent 10 9999999 1 ∷ [] in
+    times records ≡ 30 ∷ 10 ∷ [] × sizes records ≡ 100 ∷ 9999999 ∷ [] × flags records ≡ 0 ∷ 1 ∷ []
 columns = (refl, refl, refl)
 
 -- ---- reports to a fresh controller
@@ -33,24 +33,31 @@ megabit = 0x412E848000000000
 abbrev negative : ℕ
 negative = 0xC12E848000000000
 
--- a record that is sent too late and has a wrong flag, and one with the flag alone
+-- a record that is sent too late, is too large and has a wrong flag, one with size and flag, and one with the flag alone
 abbrev late : PacketResult
-late = sent 4000000000000000001 9 2
+late = sent 4000000000000000001 10000000 2
+
+abbrev large : PacketResult
+large = sent 4000000000000000000 10000000 2
 
 abbrev flagged : PacketResult
-flagged = sent 4000000000000000000 9 2
+flagged = sent 4000000000000000000 9999999 2
 
--- 5 before 2, 2 before a record's 3, 3 before its 8, and the first record that has one before the others; 4,096 records are not too many
+-- 5 before 2, 2 before a record's 3, 3 before its 17, 17 before its 8, and the first record that has one before the others; 4,096 records are not too many
 order :
     report (replicate 4097 late) negative ≡ refused initial 5
     × report (replicate 4097 late) megabit ≡ refused initial 5
     × report (replicate 4096 late) negative ≡ refused initial 2
     × report (replicate 4096 late) megabit ≡ refused initial 3
+    × report (replicate 4096 large) negative ≡ refused initial 2
+    × report (replicate 4096 large) megabit ≡ refused initial 17
     × report (replicate 4096 flagged) megabit ≡ refused initial 8
     × report (sent 0 9 0 ∷ flagged ∷ late ∷ []) megabit ≡ refused initial 8
-    × report (sent 0 9 0 ∷ late ∷ flagged ∷ []) megabit ≡ refused initial 3
+    × report (sent 0 9 0 ∷ flagged ∷ large ∷ []) megabit ≡ refused initial 8
+    × report (sent 0 9 0 ∷ large ∷ late ∷ []) megabit ≡ refused initial 17
+    × report (sent 0 9 0 ∷ late ∷ large ∷ []) megabit ≡ refused initial 3
 unfolding updateBandwidthEstimate rateRefusal columnsRefusal packets packetRefusal addPacket summaryOf signBit lt ofBits toBits
-order = (refl, refl, refl, refl, refl, refl, refl)
+order = (refl, refl, refl, refl, refl, refl, refl, refl, refl, refl, refl)
 
 -- "An empty report stores the delay estimate and does no more."
 empty : report [] megabit ≡ answered (withDelayBasedEstimate initial (rateOf megabit))

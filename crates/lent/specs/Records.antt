@@ -30,7 +30,7 @@ updateRecords c records delay = updateBandwidthEstimate c (times records) (sizes
 
 -- ---- for the proof alone: what the private `finish` gives, which no statement of document 01 has
 
--- of a count of records and what they summed to: 5, 2, the records' 3 and 8, then what a report of such totals gives
+-- of a count of records and what they summed to: 5, 2, the records' 3, 17 and 8, then what a report of such totals gives
 unfoldable pub finished : LossController → ℕ → SummaryAnswer → Bitrate → ControllerAnswer
 finished c count summed delay =
     checked c (cond (leb count mostPackets) 0 5)

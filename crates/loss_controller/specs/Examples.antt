@@ -103,15 +103,16 @@ megabit = 0x412E848000000000
 abbrev report : List ℕ → List ℕ → List ℕ → ℕ → ControllerAnswer
 report times sizes flags delay = Report.updateBandwidthEstimate initial times sizes flags (Rate.rate (bits delay))
 
--- its refusals in their order: 4 before 5, 5 before 2, 2 before a packet's 3, 3 before its 8
+-- its refusals in their order: 4 before 5, 5 before 2, 2 before a packet's 3, 3 before its 17, 17 before its 8
 order :
     report (replicate 4097 0) (replicate 4096 0) (replicate 4097 0) 0x8000000000000000 ≡ refused initial 4
     × report (replicate 4097 0) (replicate 4097 0) (replicate 4097 0) 0x8000000000000000 ≡ refused initial 5
-    × report (4000000000000000001 ∷ []) (9 ∷ []) (2 ∷ []) 0x8000000000000000 ≡ refused initial 2
-    × report (4000000000000000001 ∷ []) (9 ∷ []) (2 ∷ []) megabit ≡ refused initial 3
-    × report (0 ∷ []) (9 ∷ []) (2 ∷ []) megabit ≡ refused initial 8
+    × report (4000000000000000001 ∷ []) (10000000 ∷ []) (2 ∷ []) 0x8000000000000000 ≡ refused initial 2
+    × report (4000000000000000001 ∷ []) (10000000 ∷ []) (2 ∷ []) megabit ≡ refused initial 3
+    × report (0 ∷ []) (10000000 ∷ []) (2 ∷ []) megabit ≡ refused initial 17
+    × report (0 ∷ []) (9999999 ∷ []) (2 ∷ []) megabit ≡ refused initial 8
 unfolding Report.updateBandwidthEstimate Setters.rateRefusal columnsRefusal packets packetRefusal addPacket summaryOf signBit lt ofBits toBits
-order = (refl, refl, refl, refl, refl)
+order = (refl, refl, refl, refl, refl, refl)
 
 -- by its totals: 5 for 5,000 packets and for more lost than sent, before 2 and 3; totals that a report has get 2, then 3, and are reported
 abbrev by-totals : ℕ → ℕ → ℕ → ℕ → ControllerAnswer

@@ -99,7 +99,7 @@ reported c s delay =
 
 -- ---- the call
 
--- "A report checks 4, 5, 2, then each packet's 3 and 8, then 10, 11", which are `Window.added`'s
+-- "A report checks 4, 5, 2, then each packet's 3, 17 and 8, then 10, 11", which are `Window.added`'s
 unfoldable pub updateBandwidthEstimate : LossController → List ℕ → List ℕ → List ℕ → Bitrate → ControllerAnswer
 updateBandwidthEstimate c times sizes flags delay =
     let summary = summaryOf times sizes flags in

@@ -6,42 +6,37 @@ use mathlib.Core.List.{List, [], _∷_, map, foldl}
 use native.Mathlib.Omega.{arith}
 use borrow.Author.Tests.{eq-eqb, le-leb, leb-true, leb-false, ltb-false}
 use lib.Dec.{leb, ltb, lit≤}
-use lib.ListN.{length, getD, length-map}
+use lib.ListN.{length, length-map}
 use Rattle.float.proofs.Refusal.{checked}
 use Rattle.packets.specs.Summary.{mostPackets, latestTime, largestPacket, columnsRefusal, packets, packetRefusal}
 use Rattle.packets.specs.Summary.{refused, later, addPacket, summaryOf, isOfReport}
 use Rattle.packets.specs.declared.PacketResult.{PacketResult}
 use Rattle.packets.specs.declared.PacketResultsSummary.{PacketResultsSummary}
 use Rattle.packets.specs.declared.SummaryAnswer.{SummaryAnswer}
-use Rattle.packets.proofs.Totals.{TotalsOf, not-refused, packets-length, none-within, within-larger, within-more, of-report, totals-of}
+use Rattle.packets.proofs.Totals.{TotalsOf, not-refused, packets-length, none-within, within-larger, within-more, bytes-within, of-report, totals-of}
 
 -- ---- every report's totals pass the test
 
--- sizes that a `PacketSize` holds
-abbrev pub Small : List ℕ → Type 0
-Small sizes = (i : ℕ) → getD sizes i 0 ≤ largestPacket
-
--- the totals after the packets of three columns
-fold-within : (times sizes flags : List ℕ) (n : ℕ) (a : SummaryAnswer) → Small sizes → TotalsOf n (a .summary)
-    → TotalsOf (n + length (packets times sizes flags)) (foldl addPacket a (packets times sizes flags) .summary)
-unfolding packets
-fold-within [] sizes flags n a small w = within-larger _ (omega arith) w
-fold-within (t ∷ ts) [] flags n a small w = within-larger _ (omega arith) w
-fold-within (t ∷ ts) (s ∷ ss) [] n a small w = within-larger _ (omega arith) w
-fold-within (t ∷ ts) (s ∷ ss) (f ∷ fs) n a small w =
-    let p : PacketResult = record { «local_send_time» = t; size = s; lost = f } in
-    within-larger _ (omega arith) (fold-within ts ss fs (n + 1) (addPacket a p) (λ i. small (suc i)) (within-more n a p (small 0) w))
+fold-within : (ps : List PacketResult) (n : ℕ) (a : SummaryAnswer) → TotalsOf n (a .summary) → TotalsOf (n + length ps) (foldl addPacket a ps .summary)
+fold-within [] n a w = within-larger _ (omega arith) w
+fold-within (p ∷ ps) n a w = within-larger _ (omega arith) (fold-within ps (n + 1) (addPacket a p) (within-more n a p w))
 
 -- whatever the columns: those of a report that is refused are zeros
-pub report-passes : (times sizes flags : List ℕ) → Small sizes → isOfReport (summaryOf times sizes flags .summary) ≡ true
+report-within : (times sizes flags : List ℕ) → TotalsOf mostPackets (summaryOf times sizes flags .summary)
 unfolding summaryOf
-report-passes times sizes flags small =
-    of-report _
-    (checked (λ (a : SummaryAnswer). TotalsOf mostPackets (a .summary)) (columnsRefusal times sizes flags)
+report-within times sizes flags =
+    checked (λ (a : SummaryAnswer). TotalsOf mostPackets (a .summary)) (columnsRefusal times sizes flags)
     (λ e. let even = not-refused times sizes flags e in
     within-larger _ (omega (arith, packets-length times sizes flags (even .sizes-even) (even .flags-even), even .few))
-    (fold-within times sizes flags 0 (refused 0) small (none-within 0)))
-    (λ r. none-within mostPackets))
+    (fold-within (packets times sizes flags) 0 (refused 0) (none-within 0)))
+    (λ r. none-within mostPackets)
+
+pub report-passes : (times sizes flags : List ℕ) → isOfReport (summaryOf times sizes flags .summary) ≡ true
+report-passes times sizes flags = of-report _ (report-within times sizes flags)
+
+-- no report has more bytes than 4,096 × 9,999,999
+pub report-bytes : (times sizes flags : List ℕ) → summaryOf times sizes flags .summary .«total_size» ≤ largestPacket * mostPackets
+report-bytes times sizes flags = bytes-within _ (report-within times sizes flags)
 
 -- ---- the columns of packets
 
@@ -105,12 +100,6 @@ unfolding spread
 spread-length time flag zero bytes ps = omega arith
 spread-length time flag (suc k) bytes ps = omega (arith, spread-length time flag k (bytes - part bytes) ps)
 
-spread-small : (time flag k bytes : ℕ) (ps : List PacketResult) → Small (sizes ps) → Small (sizes (spread time flag k bytes ps))
-unfolding spread
-spread-small time flag zero bytes ps small i = small i
-spread-small time flag (suc k) bytes ps small zero = part-small bytes .0
-spread-small time flag (suc k) bytes ps small (suc i) = spread-small time flag k (bytes - part bytes) ps small i
-
 later-same : (time : ℕ) → later time time ≡ time
 later-same time = go (ltb time time)
   where
@@ -131,11 +120,11 @@ answer time n m bytes lost =
 
 module _ (time : ℕ) (early : time ≤ latestTime) where
   -- a packet of that time more
-  one-more : (n m t l bytes flag : ℕ) → flag ≤ 1
+  one-more : (n m t l bytes flag : ℕ) → bytes ≤ largestPacket → flag ≤ 1
       → addPacket (answer time n m t l) (record { «local_send_time» = time; size = bytes; lost = flag }) ≡ answer time (n + 1) (m + flag) (t + bytes)
       (l + bytes * flag)
   unfolding addPacket packetRefusal
-  one-more n m t l bytes flag h = rw (le-leb time latestTime early, le-leb flag 1 h, later-same time) refl
+  one-more n m t l bytes flag b f = rw (le-leb time latestTime early, le-leb bytes largestPacket b, le-leb flag 1 f, later-same time) refl
 
   first-packet : (p : PacketResult) → p .«local_send_time» ≡ time → addPacket (refused 0) p ≡ addPacket (answer time 0 0 0 0) p
   unfolding addPacket
@@ -156,7 +145,7 @@ module _ (time : ℕ) (early : time ≤ latestTime) where
       let rest = bytes - part bytes in
       let p : part bytes + rest ≡ bytes = omega (arith, part-small bytes) in
       let q = ap (λ (x : ℕ). x * flag) p in
-      ap (λ (a : SummaryAnswer). foldl addPacket a (spread time flag k rest ps)) (one-more n m t l (part bytes) flag f)
+      ap (λ (a : SummaryAnswer). foldl addPacket a (spread time flag k rest ps)) (one-more n m t l (part bytes) flag (part-small bytes .0) f)
       ∙ (spread-fold flag k rest (n + 1) (m + flag) (t + part bytes) (l + part bytes * flag) ps f (part-left k bytes h)
       ∙ ap (λ (a : SummaryAnswer). foldl addPacket a ps)
       (answer-is {n = n + 1 + k} {m = m + flag + k * flag} {t = t + part bytes + rest} {l = l + part bytes * flag + rest * flag}
@@ -175,11 +164,10 @@ module _ (time : ℕ) (early : time ≤ latestTime) where
 
 -- ---- totals that pass the test are some report's
 
--- the packets of a report that has these totals: none too large, none refused
+-- the packets of a report that has these totals, none of them refused
 pub record ReportOf (s : PacketResultsSummary) : Type 0 where
   pub sent : List PacketResult
   pub few : length sent ≤ mostPackets
-  pub small : Small (sizes sent)
   pub sums : summaryOf (times sent) (sizes sent) (flags sent) ≡ record { summary = s; refusal = 0 }
 
 pub some-report : (s : PacketResultsSummary) → isOfReport s ≡ true → s .«last_send_time» ≤ latestTime → ReportOf s
@@ -196,7 +184,6 @@ some-report s e early =
     record {
       sent = ps;
       few = few;
-      small = spread-small time 1 m (s .«lost_size») _ (spread-small time 0 r others [] (λ i. omega arith));
       sums = summary-of ps few ∙ (started time early m r (s .«lost_size») others (λ z. w .timed (omega (arith, w .lost-packets-within)))
           ∙ (spread-fold time early 1 m (s .«lost_size») 0 0 0 0 _ (lit≤ tt) (w .lost-within)
           ∙ (spread-fold time early 0 r others _ _ _ _ [] (lit≤ tt) (w .others-within)

@@ -3,7 +3,6 @@ use Prim.Native.Nat.{ℕ, zero, suc, _+_, _-_, _*_, _≤_, _<_}
 use mathlib.Core.Path.{_≡_, refl, ap}
 use mathlib.Core.Bool.{Bool, true, false, cond, _&&_, _||_}
 use mathlib.Core.List.{List, [], _∷_, foldl}
-use mathlib.Core.Logic.{_⊎_, inl, inr, ⊎-elim}
 use native.Mathlib.Nat.{mul-le-mul-left, mul-one}
 use native.Mathlib.Omega.{arith}
 use borrow.Author.Tests.{eqb-true, leb-true, le-leb, lt-ltb}
@@ -86,35 +85,25 @@ module _ {times sizes flags : List ℕ} (e : Even times sizes flags) where
 
 -- ---- totals
 
-pub flag-small : (p : PacketResult) → packetRefusal p ≡ 0 → p .lost ≤ 1
-unfolding packetRefusal
-flag-small p = go (leb (p .«local_send_time») latestTime) (leb (p .lost) 1) refl
-  where
-    go : (a b : Bool) → leb (p .lost) 1 ≡ b → _≡_ {A = ℕ} (cond a (cond b 0 8) 3) 0 → p .lost ≤ 1
-    go true true k h = leb-true _ _ k
-    go true false k h = absurd (omega arith)
-    go false b k h = absurd (omega arith)
+-- what a packet that is taken has
+pub record TakenPacket (p : PacketResult) : Type 0 where
+  pub early : p .«local_send_time» ≤ latestTime
+  pub size-within : p .size ≤ largestPacket
+  pub flag-small : p .lost ≤ 1
 
--- a packet that is taken arrived, and adds no lost bytes, or was lost, and adds its own
-lost-or-not : (p : PacketResult) → packetRefusal p ≡ 0 → ((p .lost ≡ 0) × (p .size * p .lost ≡ 0)) ⊎ ((p .lost ≡ 1) × (p .size * p .lost ≡ p .size))
-lost-or-not p h = go (p .lost) (flag-small p h)
+pub packet-taken : (p : PacketResult) → packetRefusal p ≡ 0 → TakenPacket p
+unfolding packetRefusal
+packet-taken p = go (leb (p .«local_send_time») latestTime) (leb (p .size) largestPacket) (leb (p .lost) 1) refl refl refl
   where
-    go : (f : ℕ) → f ≤ 1 → ((f ≡ 0) × (p .size * f ≡ 0)) ⊎ ((f ≡ 1) × (p .size * f ≡ p .size))
-    go zero k = inl (refl, omega arith)
-    go (suc zero) k = inr (refl, mul-one (p .size))
-    go (suc (suc f)) k = absurd (omega arith)
+    go : (a b d : Bool) → leb (p .«local_send_time») latestTime ≡ a → leb (p .size) largestPacket ≡ b → leb (p .lost) 1 ≡ d
+        → _≡_ {A = ℕ} (cond a (cond b (cond d 0 8) 17) 3) 0 → TakenPacket p
+    go true true true e f g h = record { early = leb-true _ _ e; size-within = leb-true _ _ f; flag-small = leb-true _ _ g }
+    go true true false e f g h = absurd (omega arith)
+    go true false d e f g h = absurd (omega arith)
+    go false b d e f g h = absurd (omega arith)
 
 pub lost-part : (p : PacketResult) → packetRefusal p ≡ 0 → p .size * p .lost ≤ p .size
-lost-part p h = omega (arith, mul-le-mul-left (p .size) (flag-small p h), mul-one (p .size))
-
--- the send time of a packet that code 3 takes
-pub packet-early : (p : PacketResult) → packetRefusal p ≡ 0 → p .«local_send_time» ≤ latestTime
-unfolding packetRefusal
-packet-early p = go (leb (p .«local_send_time») latestTime) (leb (p .lost) 1) refl
-  where
-    go : (a b : Bool) → leb (p .«local_send_time») latestTime ≡ a → _≡_ {A = ℕ} (cond a (cond b 0 8) 3) 0 → p .«local_send_time» ≤ latestTime
-    go true b e h = leb-true _ _ e
-    go false b e h = absurd (omega arith)
+lost-part p h = omega (arith, mul-le-mul-left (p .size) (packet-taken p h .flag-small), mul-one (p .size))
 
 -- what empty totals have, and every packet that is taken keeps, holds of the totals of every report, which are empty where it is refused
 pub summary-holds : (P : PacketResultsSummary → Type 0) → P empty → ((s : PacketResultsSummary) (p : PacketResult) → packetRefusal p ≡ 0 → P s → P (plus s p))
@@ -135,7 +124,7 @@ summary-holds P none more times sizes flags =
 pub summary-early : (times sizes flags : List ℕ) → summaryOf times sizes flags .summary .«last_send_time» ≤ latestTime
 summary-early =
     summary-holds (λ (s : PacketResultsSummary). s .«last_send_time» ≤ latestTime) (lit≤ tt)
-    (λ s p e h. either (λ (t : ℕ). t ≤ latestTime) (ltb (s .«last_send_time») (p .«local_send_time»)) _ _ (packet-early p e) h)
+    (λ s p e h. either (λ (t : ℕ). t ≤ latestTime) (ltb (s .«last_send_time») (p .«local_send_time»)) _ _ (packet-taken p e .early) h)
 
 -- the totals of at most n packets
 pub record TotalsOf (n : ℕ) (s : PacketResultsSummary) : Type 0 where
@@ -168,34 +157,39 @@ within-larger s h w =
       timed = w .timed;
     }
 
--- a packet of no more than the largest size makes them totals of one packet more
-plus-within : (n : ℕ) (s : PacketResultsSummary) (p : PacketResult) → packetRefusal p ≡ 0 → p .size ≤ largestPacket → TotalsOf n s → TotalsOf (n + 1) (plus s p)
-plus-within n s p e size w =
-    ⊎-elim
-    (λ k. record {
-      packets-within = omega (arith, w .packets-within);
-      lost-packets-within = omega (arith, w .lost-packets-within, k .0);
-      lost-size-within = omega (arith, w .lost-size-within, k .1);
-      lost-within = omega (arith, w .lost-within, k .0, k .1);
-      others-within = omega (arith, w .others-within, w .lost-size-within, w .lost-packets-within, k .0, k .1);
-      timed = λ z. absurd (omega arith);
-    })
-    (λ k. record {
-      packets-within = omega (arith, w .packets-within);
-      lost-packets-within = omega (arith, w .lost-packets-within, k .0);
-      lost-size-within = omega (arith, w .lost-size-within, k .1);
-      lost-within = omega (arith, w .lost-within, k .0, k .1);
-      others-within = omega (arith, w .others-within, w .lost-size-within, w .lost-packets-within, k .0, k .1);
-      timed = λ z. absurd (omega arith);
-    })
-    (lost-or-not p e)
+-- so many packets have at most so many bytes
+pub bytes-within : {n : ℕ} (s : PacketResultsSummary) → TotalsOf n s → s .«total_size» ≤ largestPacket * n
+bytes-within s w = omega (arith, w .packets-within, w .lost-packets-within, w .lost-size-within, w .lost-within, w .others-within)
 
-pub within-more : (n : ℕ) (a : SummaryAnswer) (p : PacketResult) → p .size ≤ largestPacket → TotalsOf n (a .summary) → TotalsOf (n + 1) (addPacket a p .summary)
+-- what a packet that is taken has is within the largest size, lost or not
+shares : (p : PacketResult) → packetRefusal p ≡ 0
+    → (p .size * p .lost ≤ largestPacket * p .lost) × (p .size + largestPacket * p .lost ≤ largestPacket + p .size * p .lost)
+shares p h = go (p .lost) (packet-taken p h .flag-small)
+  where
+    go : (f : ℕ) → f ≤ 1 → (p .size * f ≤ largestPacket * f) × (p .size + largestPacket * f ≤ largestPacket + p .size * f)
+    go zero k = (omega arith, omega (arith, packet-taken p h .size-within))
+    go (suc zero) k = (omega (arith, packet-taken p h .size-within), omega arith)
+    go (suc (suc f)) k = absurd (omega arith)
+
+-- a packet that is taken makes them totals of one packet more
+plus-within : (n : ℕ) (s : PacketResultsSummary) (p : PacketResult) → packetRefusal p ≡ 0 → TotalsOf n s → TotalsOf (n + 1) (plus s p)
+plus-within n s p e w =
+    let flag = packet-taken p e .flag-small in
+    record {
+      packets-within = omega (arith, w .packets-within);
+      lost-packets-within = omega (arith, w .lost-packets-within, flag);
+      lost-size-within = omega (arith, w .lost-size-within, lost-part p e);
+      lost-within = omega (arith, w .lost-within, shares p e .0);
+      others-within = omega (arith, w .others-within, w .lost-size-within, w .lost-packets-within, lost-part p e, flag, shares p e .1);
+      timed = λ z. absurd (omega arith);
+    }
+
+pub within-more : (n : ℕ) (a : SummaryAnswer) (p : PacketResult) → TotalsOf n (a .summary) → TotalsOf (n + 1) (addPacket a p .summary)
 unfolding addPacket
-within-more n a p size w =
+within-more n a p w =
     let P : SummaryAnswer → Type 0 = λ a. TotalsOf (n + 1) (a .summary) in
     either P (eqb (a .refusal) 0) _ a
-    (checked P (packetRefusal p) (λ e. plus-within n (a .summary) p e size w) (λ r. none-within (n + 1)))
+    (checked P (packetRefusal p) (λ e. plus-within n (a .summary) p e w) (λ r. none-within (n + 1)))
     (within-larger (a .summary) (omega arith) w)
 
 -- ---- the test for totals

@@ -18,9 +18,9 @@ mostPackets = 4096
 abbrev pub latestTime : ℕ
 latestTime = 4 * 10 ^ 18
 
--- "sizes 16-bit"
+-- "Sizes up to 9,999,999 bytes are taken" (Q-10)
 abbrev pub largestPacket : ℕ
-largestPacket = 65535
+largestPacket = 9999999
 
 -- ---- columns
 
@@ -39,9 +39,9 @@ packets (time ∷ times) (size ∷ sizes) [] = []
 packets (time ∷ times) [] flags = []
 packets [] sizes flags = []
 
--- "then each packet's 3 and 8": a time above 4×10^18 ns, then a flag neither 0 nor 1
+-- "then each packet's 3, 17 and 8": a time above 4×10^18 ns, then a size above 9,999,999 bytes, then a flag neither 0 nor 1
 unfoldable pub packetRefusal : PacketResult → ℕ
-packetRefusal p = cond (leb (p .«local_send_time») latestTime) (cond (leb (p .lost) 1) 0 8) 3
+packetRefusal p = cond (leb (p .«local_send_time») latestTime) (cond (leb (p .size) largestPacket) (cond (leb (p .lost) 1) 0 8) 17) 3
 
 -- ---- totals
 
@@ -82,8 +82,8 @@ summaryOf times sizes flags =
 
 -- ---- totals that are summed up already
 
--- whether some report has these totals: of at most 4,096 packets some are lost, and the lost ones and the others have at most 65,535 bytes each; without
--- packets there is no send time
+-- whether some report has these totals: of at most 4,096 packets some are lost, and the lost ones and the others have at most 9,999,999 bytes each;
+-- without packets there is no send time
 unfoldable pub isOfReport : PacketResultsSummary → Bool
 isOfReport s =
     leb (s .«num_packets») mostPackets

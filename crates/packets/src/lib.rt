@@ -6,12 +6,12 @@ ghost use Prim.Native.Nat.{_<_};
 ghost use Rattle.packets.specs.Summary.{mostPackets, columnsRefusal, packetRefusal, refused, later, addPacket, isOfReport, added, summaryOf};
 
 // A packet's bytes.
-pub type PacketSize = u16;
+pub type PacketSize = u32;
 
 pub const MOST_PACKETS_IN_REPORT: usize = 4_096;
 
-// A `PacketSize`'s largest value
-pub const LARGEST_PACKET: u64 = 65_535;
+// 17: a larger size (Q-10)
+pub const LARGEST_PACKET: u64 = 9_999_999;
 
 // 4 * 10^18 ns
 pub const LATEST_TIME: u64 = 4_000_000_000_000_000_000;
@@ -95,13 +95,18 @@ pub fn columns_refusal(times: &[u64], sizes: &[PacketSize], flags: &[u8]) -> u8
 }
 
 impl PacketResult {
-    // 3 for a time above 4 * 10^18 ns, then 8 for a flag that is neither 0 nor 1.
+    // 3 for a time above 4 * 10^18 ns, then 17 for a size above 9,999,999 bytes, then 8 for a flag that
+    // is neither 0 nor 1.
     pub fn refusal(self) -> u8
         ensures { λ r. ⌜ r ≡ packetRefusal self ⌝ }
     {
         let time = self.local_send_time;
         if time > LATEST_TIME {
             return 3;
+        }
+        let size = self.size as u64;
+        if size > LARGEST_PACKET {
+            return 17;
         }
         let lost = self.lost;
         if lost > 1 {

@@ -1,4 +1,4 @@
-// Reports at each limit: codes 4 and 5, 3 and 8, 10, 11, and reports without packets.
+// Reports at each limit: codes 4 and 5, 3, 17 and 8, 10, 11, and reports without packets.
 use crate::controllers::controller;
 use crate::controllers::without_estimate;
 use crate::controllers::without_reference;
@@ -10,12 +10,14 @@ use crate::reports::send;
 use crate::values::BYTES;
 use crate::values::COMPLETING;
 use crate::values::COUNT;
+use crate::values::LARGEST;
 use crate::values::LATEST;
 use crate::values::MOST_BYTES;
 use crate::values::MOST_COUNT;
 use crate::values::MOST_PACKETS;
 use crate::values::NOWHERE;
 use crate::values::PACKETS;
+use crate::values::TOO_LARGE;
 use crate::values::TOO_LATE;
 use crate::verdict::Tally;
 
@@ -60,15 +62,18 @@ pub(crate) fn longest_reports(tally: Tally) -> Tally {
     t = t.report(most, 3);
     t = t.report(more, 5);
     most.odd_time_at = NOWHERE;
+    most.odd_size_at = 4_095;
+    t = t.report(most, 17);
+    most.odd_size_at = NOWHERE;
     most.odd_flag_at = 4_095;
     t = t.report(most, 8);
     t
 }
 
-// ---- 3 and 8
+// ---- 3, 17 and 8
 
 pub(crate) fn odd_packets(tally: Tally) -> Tally {
-    let mut late = marked(1, NOWHERE);
+    let mut late = marked(1, NOWHERE, NOWHERE);
     let mut t = tally;
     late.odd_time = LATEST;
     t = t.report(late, 0);
@@ -78,7 +83,16 @@ pub(crate) fn odd_packets(tally: Tally) -> Tally {
     t = t.report(late, 3);
     late.odd_time = 0;
     t = t.report(late, 0);
-    let mut flagged = marked(NOWHERE, 1);
+    let mut large = marked(NOWHERE, 1, NOWHERE);
+    large.odd_size = 65_536;
+    t = t.report(large, 0);
+    large.odd_size = LARGEST;
+    t = t.report(large, 0);
+    large.odd_size = TOO_LARGE;
+    t = t.report(large, 17);
+    large.odd_size = u32::MAX;
+    t = t.report(large, 17);
+    let mut flagged = marked(NOWHERE, NOWHERE, 1);
     flagged.odd_flag = 1;
     t = t.report(flagged, 0);
     flagged.odd_flag = 2;
@@ -100,11 +114,20 @@ pub(crate) fn bytes_limit(tally: Tally) -> Tally {
     empty.size = 0;
     t = t.report_to(COUNT, PACKETS, MOST_BYTES, empty, 0);
     t = t.report_to(COUNT, PACKETS, 1_000_000_000_001, empty, 10);
-    // 268,431,360 bytes
+    // 40,959,995,904 bytes
     let mut heaviest = packets(4_096);
-    heaviest.size = 65_535;
-    t = t.report_to(COUNT, PACKETS, 999_731_568_640, heaviest, 0);
-    t = t.report_to(COUNT, PACKETS, 999_731_568_641, heaviest, 10);
+    heaviest.size = LARGEST;
+    t = t.report_to(COUNT, PACKETS, 959_040_004_096, heaviest, 0);
+    t = t.report_to(COUNT, PACKETS, 959_040_004_097, heaviest, 10);
+    // 100,000 frames of 9,999,999 bytes leave room for 100,000 bytes
+    let mut frame = packets(1);
+    frame.size = LARGEST;
+    t = t.report_to(COUNT, 99_999, 999_989_900_001, frame, 0);
+    t = t.report_to(COUNT, 100_000, 999_999_900_000, frame, 10);
+    frame.size = 100_000;
+    t = t.report_to(COUNT, 100_000, 999_999_900_000, frame, 0);
+    frame.size = 100_001;
+    t = t.report_to(COUNT, 100_000, 999_999_900_000, frame, 10);
     t = t.report_to(COUNT, PACKETS, u64::MAX, packets(3), 10);
     t
 }

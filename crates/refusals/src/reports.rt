@@ -9,6 +9,7 @@ use crate::values::COMPLETING;
 use crate::values::DELAY;
 use crate::values::NOWHERE;
 use crate::values::SOON;
+use crate::values::TOO_LARGE;
 use crate::values::TOO_LATE;
 use crate::verdict::Tally;
 use bandwidth::Bitrate;
@@ -16,8 +17,8 @@ use loss_controller::ControllerAnswer;
 use loss_controller::LossController;
 use packets::PacketSize;
 
-// A report. Its packets were sent at `time`, have `size` bytes and arrived, but for the packet at
-// the place `odd_time_at` and the one at `odd_flag_at`.
+// A report. Its packets were sent at `time`, have `size` bytes and arrived, but for those at the
+// places `odd_time_at`, `odd_size_at` and `odd_flag_at`.
 pub(crate) struct Report {
     pub(crate) times: usize,
     pub(crate) sizes: usize,
@@ -26,6 +27,8 @@ pub(crate) struct Report {
     pub(crate) size: PacketSize,
     pub(crate) odd_time_at: usize,
     pub(crate) odd_time: u64,
+    pub(crate) odd_size_at: usize,
+    pub(crate) odd_size: PacketSize,
     pub(crate) odd_flag_at: usize,
     pub(crate) odd_flag: u8,
     pub(crate) delay: f64,
@@ -41,6 +44,8 @@ pub(crate) fn packets(n: usize) -> Report {
         size: 1_000,
         odd_time_at: NOWHERE,
         odd_time: TOO_LATE,
+        odd_size_at: NOWHERE,
+        odd_size: TOO_LARGE,
         odd_flag_at: NOWHERE,
         odd_flag: 2,
         delay: DELAY,
@@ -54,10 +59,11 @@ pub(crate) fn completing() -> Report {
     report
 }
 
-// Three packets with a 3 and an 8 at these places.
-pub(crate) fn marked(three: usize, eight: usize) -> Report {
+// Three packets with a 3, a 17 and an 8 at these places.
+pub(crate) fn marked(three: usize, seventeen: usize, eight: usize) -> Report {
     let mut report = packets(3);
     report.odd_time_at = three;
+    report.odd_size_at = seventeen;
     report.odd_flag_at = eight;
     report
 }
@@ -83,6 +89,7 @@ pub(crate) fn with_code(mut report: Report, code: u8) -> Report {
         }
         8 => report.odd_flag_at = 1,
         11 => report.time = COMPLETING,
+        17 => report.odd_size_at = 1,
         _ => {}
     }
     report
@@ -116,7 +123,12 @@ fn times(report: Report) -> [u64; 4_097] {
 
 fn sizes(report: Report) -> [PacketSize; 4_097] {
     let size = report.size;
-    [size; 4_097]
+    let mut sizes = [size; 4_097];
+    let place = report.odd_size_at;
+    if place < 4_097 {
+        sizes[place] = report.odd_size;
+    }
+    sizes
 }
 
 fn flags(report: Report) -> [u8; 4_097] {
@@ -135,6 +147,7 @@ fn print_report(report: Report) {
     field(b" packets of ", report.size as u64);
     field(b" bytes at ", report.time);
     print_odd_time(report.odd_time_at, report.odd_time);
+    print_odd_size(report.odd_size_at, report.odd_size);
     print_odd_flag(report.odd_flag_at, report.odd_flag);
     print_delay(report.delay);
 }
@@ -143,6 +156,14 @@ fn print_odd_time(place: usize, time: u64) {
     if place < NOWHERE {
         field(b", packet ", place as u64);
         field(b" at ", time);
+    }
+}
+
+fn print_odd_size(place: usize, size: PacketSize) {
+    if place < NOWHERE {
+        field(b", packet ", place as u64);
+        field(b" of ", size as u64);
+        text(b" bytes");
     }
 }
 

@@ -39,19 +39,24 @@ pub(crate) fn summaries(tally: Tally) -> Tally {
 // packets, lost packets, bytes and lost bytes.
 pub(crate) fn no_report(tally: Tally) -> Tally {
     let mut t = tally;
-    // 4,096 packets of 65,535 bytes, all lost
-    t = t.totals(sums(4_096, 4_096, 268_431_360, 268_431_360), 0);
+    // 4,096 packets of 9,999,999 bytes, all lost or none, and a byte more
+    t = t.totals(sums(4_096, 4_096, 40_959_995_904, 40_959_995_904), 0);
+    t = t.totals(sums(4_096, 4_096, 40_959_995_905, 40_959_995_905), 5);
+    t = t.totals(sums(4_096, 0, 40_959_995_904, 0), 0);
+    t = t.totals(sums(4_096, 0, 40_959_995_905, 0), 5);
     t = t.totals(sums(4_097, 0, 0, 0), 5);
     t = t.totals(sums(5_000, 0, 5_000_000, 0), 5);
     t = t.totals(sums(3, 3, 3_000, 3_000), 0);
     t = t.totals(sums(3, 4, 3_000, 3_000), 5);
     t = t.totals(sums(3, 1, 3_000, 3_001), 5);
     t = t.totals(sums(3, 0, 3_000, 1), 5);
-    // A lost packet, and two that arrived, of 65,535 bytes and of one more
-    t = t.totals(sums(3, 1, 65_535, 65_535), 0);
-    t = t.totals(sums(3, 1, 65_536, 65_536), 5);
-    t = t.totals(sums(3, 1, 131_070, 0), 0);
-    t = t.totals(sums(3, 1, 131_071, 0), 5);
+    // A packet, a lost one, and two that arrived, of 9,999,999 bytes and of one more
+    t = t.totals(sums(1, 0, 9_999_999, 0), 0);
+    t = t.totals(sums(1, 0, 10_000_000, 0), 5);
+    t = t.totals(sums(3, 1, 9_999_999, 9_999_999), 0);
+    t = t.totals(sums(3, 1, 10_000_000, 10_000_000), 5);
+    t = t.totals(sums(3, 1, 19_999_998, 0), 0);
+    t = t.totals(sums(3, 1, 19_999_999, 0), 5);
     t = t.totals(sums(u64::MAX, u64::MAX, u64::MAX, u64::MAX), 5);
     t = t.totals(sums(0, 0, 1, 0), 5);
     // No packets, but a time

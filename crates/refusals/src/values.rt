@@ -1,9 +1,14 @@
 // Document 01's limits, and the values that the cases are made of.
+use packets::PacketSize;
 
 // Document 01's limits, as it writes them.
 pub(crate) const LATEST: u64 = 4_000_000_000_000_000_000;
 
 pub(crate) const TOO_LATE: u64 = 4_000_000_000_000_000_001;
+
+pub(crate) const LARGEST: PacketSize = 9_999_999;
+
+pub(crate) const TOO_LARGE: PacketSize = 10_000_000;
 
 pub(crate) const MOST_BYTES: u64 = 1_000_000_000_000;
 

@@ -31,7 +31,7 @@ struct Answer {
 
 fn main() {
     let mut times = [0u64; PLACES];
-    let mut sizes = [0u16; PLACES];
+    let mut sizes: [PacketSize; PLACES] = [0; PLACES];
     let mut flags = [0u8; PLACES];
     let mut answer = fresh();
     // Nothing says that the input ends, so the loop counts down.
@@ -176,7 +176,7 @@ fn queue(
 fn packet(call: Call) -> PacketResult {
     PacketResult {
         local_send_time: call.a,
-        size: (call.c % 65_536) as u16,
+        size: (call.c % 4_294_967_296) as PacketSize,
         lost: flag(call.b),
     }
 }
@@ -248,7 +248,7 @@ fn print_answer(answer: Answer) {
     let result = controller.loss_based_result();
     let state = result.state;
     let ratio = controller.average_reported_loss_ratio();
-    print(answer.refusal as u64, 1);
+    print(answer.refusal as u64, 2);
     print(state.number() as u64, 1);
     let rate = result.bandwidth_estimate;
     print(stored_fields::option_case(rate), 1);

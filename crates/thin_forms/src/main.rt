@@ -17,8 +17,9 @@ fn main() {
     controller = sent_at(controller, 0);
     controller = sent_at(controller, 300_000_000);
     controller = sent_at(controller, 600_000_000);
-    // 3, 8, 2 and 4
+    // 3, 17, 8, 2 and 4
     controller = sent_at(controller, 4_000_000_000_000_000_001);
+    controller = sized(controller, 10_000_000);
     controller = flagged(controller, 2);
     controller = delayed(controller, -1.0);
     controller = unequal(controller);
@@ -43,7 +44,14 @@ fn packet(local_send_time: u64, size: PacketSize, lost: u8) -> PacketResult {
 fn sent_at(controller: LossController, time: u64) -> LossController {
     let one = packet(time, 1_200, 0);
     let two = packet(5, 800, 1);
-    let three = packet(time, 65_535, 0);
+    let three = packet(time, 9_999_999, 0);
+    reported(controller, one, two, three, 2.0e6)
+}
+
+fn sized(controller: LossController, size: PacketSize) -> LossController {
+    let one = packet(700_000_000, 1_200, 1);
+    let two = packet(700_000_000, size, 0);
+    let three = packet(700_000_000, 400, 0);
     reported(controller, one, two, three, 2.0e6)
 }
 

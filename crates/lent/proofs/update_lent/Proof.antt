@@ -28,7 +28,7 @@ use denote.RattleType.{RattleType, owns}
 use denote.Laws.{Is, shows}
 use denote.Memory.{mem}
 use denote.Plain.{uint-makes}
-use denote.Builtin.{u16, u64, u8}
+use denote.Builtin.{u32, u64, u8}
 use denote.Ref.{RefT, MutRef, ptr-vals, mut-tells}
 use lib.ListN.{length}
 use denote.Slice.{sliceVal, ShrSlice, Room, slice-vals, shr-slice-tells, shr-slice-copy}
@@ -70,7 +70,7 @@ stayed = (
   stay-ref (0 ∷ []) tt (plain (λ _. T.the-row)),
   (
     stay-none-slice (1 ∷ []) tt (plain (λ _. u64)) yes,
-    (stay-none-slice (2 ∷ []) tt (plain (λ _. u16)) yes, (stay-none-slice (3 ∷ []) tt (plain (λ _. u8)) yes, (stay-none (λ _. B.the-row) yes, tt))),
+    (stay-none-slice (2 ∷ []) tt (plain (λ _. u32)) yes, (stay-none-slice (3 ∷ []) tt (plain (λ _. u8)) yes, (stay-none (λ _. B.the-row) yes, tt))),
   ),
 )
 
@@ -96,7 +96,7 @@ module _ {M : Type 1} (𝓤 : URA M) (H : Heap 𝓤) (A : Atoms 𝓤) (W : Given
 
   -- the parameters but for the controller: their types, values and machine values, what they own, and the tokens of their lifetimes
   abbrev Os : List RattleType
-  Os = ShrSlice (named 1) κ1 u64 ∷ ShrSlice (named 2) κ2 u16 ∷ ShrSlice (named 3) κ3 u8 ∷ B.the-row ∷ []
+  Os = ShrSlice (named 1) κ1 u64 ∷ ShrSlice (named 2) κ2 u32 ∷ ShrSlice (named 3) κ3 u8 ∷ B.the-row ∷ []
 
   abbrev xs : RefT (List ℕ) × (RefT (List ℕ) × (RefT (List ℕ) × (Bitrate × Unit {0})))
   xs = (times, (sizes, (flags, (delay, tt))))
@@ -126,7 +126,7 @@ module _ {M : Type 1} (𝓤 : URA M) (H : Heap 𝓤) (A : Atoms 𝓤) (W : Given
   copied =
       twices 𝓤 H A W Os (
         shr-slice-copy 𝓤 H A W (named 1) κ1 u64,
-        (shr-slice-copy 𝓤 H A W (named 2) κ2 u16, (shr-slice-copy 𝓤 H A W (named 3) κ3 u8, (LL.copy B.the-type B′.the-copy 𝓤 H A W, tt))),
+        (shr-slice-copy 𝓤 H A W (named 2) κ2 u32, (shr-slice-copy 𝓤 H A W (named 3) κ3 u8, (LL.copy B.the-type B′.the-copy 𝓤 H A W, tt))),
       ) xs vs₀
 
   -- what the callee's triple binds outside, what it asks, and what it says
@@ -155,7 +155,7 @@ module _ {M : Type 1} (𝓤 : URA M) (H : Heap 𝓤) (A : Atoms 𝓤) (W : Given
       owned ! u8 (Is u8) (uint-makes 𝓤 H A W w8) (r .refusal) _ (refl, small) $ done !
 
   module _ (C : Calls 𝓤 H) (Λ : Loops 𝓤 H) (fm : FmC 𝓤 H (W .laws) C) (known : Triple 𝓤 (C #callee) (Callee 𝓤 H A at-mem run)) where
-    walk : Room u64 (length (times .now)) → Room u16 (length (sizes .now)) → Room u8 (length (flags .now)) → Is B.the-row delay (vals-b delay)
+    walk : Room u64 (length (times .now)) → Room u32 (length (sizes .now)) → Room u8 (length (flags .now)) → Is B.the-row delay (vals-b delay)
         → ent 𝓤 (onEntry 𝓤 H A f.signature (κ, κs) (q, qs) arg at)
         (WpFn 𝓤 H C Λ code.function (vptr b o ∷ sliceVal (times .ptr) (length (times .now)) ∷ sliceVal (sizes .ptr) (length (sizes .now))
         ∷ sliceVal (flags .ptr) (length (flags .now)) ∷ val-b delay ∷ []) Post)
@@ -208,7 +208,7 @@ module _ {M : Type 1} (𝓤 : URA M) (H : Heap 𝓤) (A : Atoms 𝓤) (W : Given
     (
       goes-none-slice 𝓤 H A W 4 (1 ∷ []) tt (plain (λ _. u64)) yes,
       (
-        goes-none-slice 𝓤 H A W 4 (2 ∷ []) tt (plain (λ _. u16)) yes,
+        goes-none-slice 𝓤 H A W 4 (2 ∷ []) tt (plain (λ _. u32)) yes,
         (goes-none-slice 𝓤 H A W 4 (3 ∷ []) tt (plain (λ _. u8)) yes, (goes-none 𝓤 H A W 4 (λ _. B.the-row) yes (λ κs x f. refl), tt)),
       ),
     ),
@@ -225,7 +225,7 @@ module _ {M : Type 1} (𝓤 : URA M) (H : Heap 𝓤) (A : Atoms 𝓤) (W : Given
         mut-tells (named 0) (κs .0) T.the-row,
         (
           shr-slice-tells (named 1) (κs .1 .0) u64,
-          (shr-slice-tells (named 2) (κs .1 .1 .0) u16, (shr-slice-tells (named 3) (κs .1 .1 .1 .0) u8, (LL.tells B.the-type B′.the-laws, tt))),
+          (shr-slice-tells (named 2) (κs .1 .1 .0) u32, (shr-slice-tells (named 3) (κs .1 .1 .1 .0) u8, (LL.tells B.the-type B′.the-laws, tt))),
         ),
       ))
       (λ κs qs bounds a _ are. via 𝓤 _ (fst∗ 𝓤 _ (emp 𝓤))

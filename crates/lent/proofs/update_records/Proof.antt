@@ -51,7 +51,7 @@ use denote.Triple.Spec.{Meets, tripleOf}
 use denote.Triple.Table.{entered, cited}
 use denote.Triple.Walked.{says, Stays, stay-none-slice, stay-none, walkOf, AllGo, goes-none, goes-none-slice, ends-at, walked, walk-meets}
 use denote.Exit.{yes}
-use Rattle.packets.specs.Summary.{refused, added, largestPacket}
+use Rattle.packets.specs.Summary.{refused, added}
 use Rattle.lent.specs.Records.{updateRecords, finished}
 use Rattle.bandwidth.specs.declared.Bitrate.{Bitrate}
 use Rattle.packets.specs.declared.PacketResult.{PacketResult}
@@ -97,10 +97,6 @@ vals-u = LL.vals U.the-type U′.the-laws
 
 abbrev val-u : SummaryAnswer → Val
 val-u = LL.val U.the-type U′.the-laws
-
--- a record's size is a u16
-size-fits : (p : PacketResult) → Is P.the-row p (vals-p p) → p .size ≤ largestPacket
-size-fits p g = omega (arith, LL.owed P.the-type P′.the-laws p (vals-p p) g .1 .0 .1)
 
 -- the machine type of the slice of records
 abbrev slice : Ty
@@ -318,7 +314,7 @@ module _ {M : Type 1} (𝓤 : URA M) (H : Heap 𝓤) (A : Atoms 𝓤) (W : Given
             r,
             add-one-le less,
             subst (Is U.the-row r) (LL.tells U.the-type U′.the-laws r (v ∷ []) is) is,
-            summed-more ys (s .0) (s .1) r less (size-fits elem g) er (s .4),
+            summed-more ys (s .0) (s .1) r less er (s .4),
           ) (add-one-dec n (s .0) less))))))
         where
           less : s .0 < n

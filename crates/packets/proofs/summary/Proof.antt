@@ -6,8 +6,8 @@ use mathlib.Core.Path.{_≡_, refl, _∙_, sym}
 use native.Mathlib.Omega.{arith}
 use borrow.Author.Needs.{needs}
 use borrow.Author.Tests.{eq-eqb, ne-eqb}
-use lib.ListN.{length, drop, getD}
-use Rattle.packets.specs.Summary.{packets, refused, addPacket, summaryOf, largestPacket}
+use lib.ListN.{length, drop}
+use Rattle.packets.specs.Summary.{packets, refused, addPacket, summaryOf}
 use Rattle.packets.proofs.Totals.{TotalsOf, Even, not-refused, columns-again, columns-end, none-within, within-larger, within-more, of-report}
 use Rattle.packets.proofs.summary.Statement.{statement}
 use Rattle.packets.proofs.summary.Tie as tie
@@ -67,12 +67,10 @@ loop-less c = search needs
 loop-again : tie.Need-loop-again Inv-loop μ-loop
 loop-again c =
     let b = c .before .before .before .before .before in
-    let a = b .before .before .before .before .before .before .before .args in
     let i = b .loop .i in
-    let e = b .loop .inv .2 in
-    let size : getD (a .sizes .now) i 0 ≤ largestPacket = omega (arith, c .before .before .shared-slice-known5 .given i) in (
+    let e = b .loop .inv .2 in (
       search needs,
-      rw (c .add-packet .ensures) (within-more i _ _ size (b .loop .inv .1)),
+      rw (c .add-packet .ensures) (within-more i _ _ (b .loop .inv .1)),
       e,
       columns-again e _ _ _ i (c .before .before .before .before .loop-test .taken) (c .add-packet .ensures) (b .loop .inv .3),
     )

@@ -29,7 +29,7 @@ use denote.RattleType.{RattleType, owns}
 use denote.Laws.{Is, shows}
 use denote.Memory.{mem, partAt}
 use denote.Plain.{uint-lawful}
-use denote.Builtin.{u8, u16, u64}
+use denote.Builtin.{u8, u32, u64}
 use denote.Lend.{lends-ref, ref-back}
 use denote.Ref.{RefT, MutRef}
 use denote.Slice.{sliceVal, ShrSlice, Room, slice-vals, shr-slice-tells, shr-slice-copy}
@@ -69,7 +69,7 @@ stayed = (
   stay-none (λ _. T.the-row) yes,
   (
     stay-none-slice (0 ∷ []) tt (plain (λ _. u64)) yes,
-    (stay-none-slice (1 ∷ []) tt (plain (λ _. u16)) yes, (stay-none-slice (2 ∷ []) tt (plain (λ _. u8)) yes, (stay-none (λ _. B.the-row) yes, tt))),
+    (stay-none-slice (1 ∷ []) tt (plain (λ _. u32)) yes, (stay-none-slice (2 ∷ []) tt (plain (λ _. u8)) yes, (stay-none (λ _. B.the-row) yes, tt))),
   ),
 )
 
@@ -87,7 +87,7 @@ module _ {M : Type 1} (𝓤 : URA M) (H : Heap 𝓤) (A : Atoms 𝓤) (W : Given
 
   -- the parameters but for the controller
   abbrev Os : List RattleType
-  Os = ShrSlice (named 1) κ1 u64 ∷ ShrSlice (named 2) κ2 u16 ∷ ShrSlice (named 3) κ3 u8 ∷ B.the-row ∷ []
+  Os = ShrSlice (named 1) κ1 u64 ∷ ShrSlice (named 2) κ2 u32 ∷ ShrSlice (named 3) κ3 u8 ∷ B.the-row ∷ []
 
   abbrev xs : RefT (List ℕ) × (RefT (List ℕ) × (RefT (List ℕ) × (Bitrate × Unit {0})))
   xs = (times, (sizes, (flags, (delay, tt))))
@@ -113,7 +113,7 @@ module _ {M : Type 1} (𝓤 : URA M) (H : Heap 𝓤) (A : Atoms 𝓤) (W : Given
         LL.copy T.the-type T′.the-copy 𝓤 H A W,
         (
           shr-slice-copy 𝓤 H A W (named 1) κ1 u64,
-          (shr-slice-copy 𝓤 H A W (named 2) κ2 u16, (shr-slice-copy 𝓤 H A W (named 3) κ3 u8, (LL.copy B.the-type B′.the-copy 𝓤 H A W, tt))),
+          (shr-slice-copy 𝓤 H A W (named 2) κ2 u32, (shr-slice-copy 𝓤 H A W (named 3) κ3 u8, (LL.copy B.the-type B′.the-copy 𝓤 H A W, tt))),
         ),
       ) (h, xs) (vals h, vs₀)
 
@@ -140,7 +140,7 @@ module _ {M : Type 1} (𝓤 : URA M) (H : Heap 𝓤) (A : Atoms 𝓤) (W : Given
       join ! $ frame ! $ done !
 
   module _ (C : Calls 𝓤 H) (Λ : Loops 𝓤 H) (fm : FmC 𝓤 H (W .laws) C) (known : Triple 𝓤 (C #callee) (Callee 𝓤 H A at-mem run)) where
-    walk : Is T.the-row h (vals h) → Room u64 (length (times .now)) → Room u16 (length (sizes .now)) → Room u8 (length (flags .now))
+    walk : Is T.the-row h (vals h) → Room u64 (length (times .now)) → Room u32 (length (sizes .now)) → Room u8 (length (flags .now))
         → Is B.the-row delay (vals-b delay)
         → ent 𝓤 (onEntry 𝓤 H A f.signature κs qs (h, xs) (vals h, vs₀))
         (WpFn 𝓤 H C Λ code.function (val h ∷ sliceVal (times .ptr) (length (times .now)) ∷ sliceVal (sizes .ptr) (length (sizes .now))
@@ -208,7 +208,7 @@ module _ {M : Type 1} (𝓤 : URA M) (H : Heap 𝓤) (A : Atoms 𝓤) (W : Given
     (
       goes-none-slice 𝓤 H A W 3 (0 ∷ []) tt (plain (λ _. u64)) yes,
       (
-        goes-none-slice 𝓤 H A W 3 (1 ∷ []) tt (plain (λ _. u16)) yes,
+        goes-none-slice 𝓤 H A W 3 (1 ∷ []) tt (plain (λ _. u32)) yes,
         (goes-none-slice 𝓤 H A W 3 (2 ∷ []) tt (plain (λ _. u8)) yes, (goes-none 𝓤 H A W 3 (λ _. B.the-row) yes (λ κs x f. refl), tt)),
       ),
     ),
@@ -225,7 +225,7 @@ module _ {M : Type 1} (𝓤 : URA M) (H : Heap 𝓤) (A : Atoms 𝓤) (W : Given
         LL.tells T.the-type T′.the-laws,
         (
           shr-slice-tells (named 0) (κs .0) u64,
-          (shr-slice-tells (named 1) (κs .1 .0) u16, (shr-slice-tells (named 2) (κs .1 .1 .0) u8, (LL.tells B.the-type B′.the-laws, tt))),
+          (shr-slice-tells (named 1) (κs .1 .0) u32, (shr-slice-tells (named 2) (κs .1 .1 .0) u8, (LL.tells B.the-type B′.the-laws, tt))),
         ),
       ))
       (λ κs qs bounds a _ are. via 𝓤 _ (fst∗ 𝓤 _ (emp 𝓤))

@@ -4,7 +4,7 @@ use native.Mathlib.Omega.{arith}
 use borrow.Author.Needs.{needs}
 use borrow.Author.Tests.{eq-eqb, ne-eqb}
 use Rattle.packets.specs.Summary.{addPacket}
-use Rattle.packets.proofs.Totals.{lost-part, totals-of}
+use Rattle.packets.proofs.Totals.{lost-part, bytes-within, totals-of}
 use Rattle.packets.proofs.SummaryAnswer.add_packet.Statement.{statement}
 use Rattle.packets.proofs.SummaryAnswer.add_packet.Tie as tie
 
@@ -41,7 +41,7 @@ add-t10 c =
 add-t11 : tie.Need-add-t11
 add-t11 c =
     let b = c .before .before .before .before .before .before .before .before in
-    omega (arith, totals-of _ (b .before .pre .0))
+    omega (arith, bytes-within _ (totals-of _ (b .before .pre .0)))
 
 mul-t12 : tie.Need-mul-t12
 mul-t12 c =
