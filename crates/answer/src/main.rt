@@ -29,7 +29,7 @@ struct Stop {
 
 fn main() {
     let mut times = [0u64; PLACES];
-    let mut sizes = [0u16; PLACES];
+    let mut sizes: [PacketSize; PLACES] = [0; PLACES];
     let mut flags = [0u8; PLACES];
     let mut chunk = [0u8; CHUNK];
     let mut out = [0u8; ROOM];

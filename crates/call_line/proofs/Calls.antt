@@ -1,5 +1,5 @@
--- A line that is taken is the text of its call: no two lines say the same call. Assumes nothing.
-use Prim.Native.Nat.{ℕ, zero, suc}
+-- A line that is taken is the text of its call in its own width: no two lines of one width say the same call. Assumes nothing.
+use Prim.Native.Nat.{ℕ, zero, suc, _<_}
 use mathlib.Core.Path.{_≡_, refl, sym, ap, _∙_}
 use mathlib.Core.Bool.{Bool, true, false, cond, _&&_, _||_, not, true≢false}
 use mathlib.Core.List.{List, [], _∷_}
@@ -14,11 +14,12 @@ use Rattle.call_line.specs.declared.Fields.the-variants.{Read as Fields�
 use Rattle.call_line.specs.declared.Call.{Call}
 use Rattle.call_line.specs.declared.Call.the-variants.{Estimate, Acknowledged, AlrOn, AlrOff, CapacityIs, CapacityNone, Packet, Report, Read}
 use Rattle.call_line.specs.declared.Line.the-variants.{Taken, Refused, ReportRefused}
-use Rattle.call_line.specs.Column.{row}
-use Rattle.call_line.specs.Line.{widths, fieldsOf, inTable, rateCode, unlessRefused, byFlag, reportOf, alrOf, capacityOf, packetOf, callOf}
+use Rattle.call_line.specs.Column.{total, row}
+use Rattle.call_line.specs.Line.{fieldsIn, fieldsOf, inTable, rateCode, unlessRefused, byFlag, reportOf, alrOf, capacityOf, packetOf, callOf}
 use Rattle.call_line.specs.Line.{valuesOf, checked, lineOf}
 use Rattle.call_line.specs.Write.{fields}
-use Rattle.call_line.proofs.RoundTrip.{Fits, line-written, line-read}
+use Rattle.call_line.proofs.Columns.{Shape}
+use Rattle.call_line.proofs.RoundTrip.{Fits, length-row, line-written, fields-fit, line-read}
 
 two-zeros : (b c : ℕ) → eqb b 0 && eqb c 0 ≡ true → (b ≡ 0) × (c ≡ 0)
 two-zeros b c e = let h = both (eqb b 0) (eqb c 0) e in (eqb-true b 0 (h .0), eqb-true c 0 (h .1))
@@ -89,7 +90,7 @@ taken-fields s call e = pick (fieldsOf s) e
     pick (Fields·Read k a b c) e = allowed-or-not k a b c (inTable k a b c) refl e
     pick Unreadable e = let z : _≡_ {A = ℕ} 0 1 = cc in absurd (omega arith)
 
-four-values :
+pub four-values :
     (call : Call)
     → valuesOf call ≡ getD (valuesOf call) 0 0 ∷ getD (valuesOf call) 1 0 ∷ getD (valuesOf call) 2 0 ∷ getD (valuesOf call) 3 0 ∷ []
 unfolding valuesOf
@@ -103,16 +104,25 @@ four-values (Packet time lost size) = refl
 four-values (Report delay) = refl
 four-values Read = refl
 
-pub four-long : (call : Call) → length (valuesOf call) ≡ length widths
+pub four-long : (call : Call) → length (valuesOf call) ≡ 4
 four-long call = ap length (four-values call)
 
--- what is read is what is written
-pub call-read : (s : List ℕ) (call : Call) → lineOf s ≡ Taken call → row widths (valuesOf call) ≡ s
-call-read s call e = ap (row widths) (four-values call) ∙ line-read s _ _ _ _ (taken-fields s call e)
+module _ (ws : List ℕ) (w : Shape ws) (s : List ℕ) (l : length s ≡ total ws) (call : Call) (e : lineOf s ≡ Taken call) where
+  shaped-fields : fieldsIn ws s ≡ fields (valuesOf call)
+  shaped-fields = sym (w .told s l) ∙ taken-fields s call e
+
+  -- what is read is what is written
+  pub call-read : row ws (valuesOf call) ≡ s
+  call-read = ap (row ws) (four-values call) ∙ line-read ws (w .columns) s l _ _ _ _ shaped-fields
+
+  pub values-fit : (j : ℕ) → j < 4 → Fits (getD ws j 0) (getD (valuesOf call) j 0)
+  values-fit = rw (four-values call) (fields-fit ws (w .columns) s l _ _ _ _ shaped-fields)
 
 -- what is written is read: four numbers that fit their columns are checked as they are
 pub line-says :
-    (k a b c : ℕ) → Fits (getD widths 0 0) k → Fits (getD widths 1 0) a → Fits (getD widths 2 0) b → Fits (getD widths 3 0) c
-    → lineOf (row widths (k ∷ a ∷ b ∷ c ∷ [])) ≡ checked (Fields·Read k a b c)
+    (ws : List ℕ) → Shape ws → (k a b c : ℕ) → Fits (getD ws 0 0) k → Fits (getD ws 1 0) a → Fits (getD ws 2 0) b → Fits (getD ws 3 0) c
+    → lineOf (row ws (k ∷ a ∷ b ∷ c ∷ [])) ≡ checked (Fields·Read k a b c)
 unfolding lineOf
-line-says k a b c fk fa fb fc = ap checked (line-written k a b c fk fa fb fc)
+line-says ws w k a b c fk fa fb fc =
+    ap checked
+    (w .told _ (length-row ws (k ∷ a ∷ b ∷ c ∷ []) (w .columns .long)) ∙ line-written ws (w .columns) k a b c fk fa fb fc)

@@ -1,11 +1,11 @@
--- What other crates need to know of lines: a line that is taken has no newline in it, and one of another width is not in shape. Assumes nothing.
+-- What other crates need to know of lines: a line that is taken has no newline in it, and one of neither width is not in shape. Assumes nothing.
 use Prim.Native.Nat.{ℕ, zero, suc, _+_, _-_, _≤_, _<_}
 use mathlib.Core.Path.{_≡_, refl, sym, ap, _∙_}
 use mathlib.Core.Bool.{Bool, true, false, cond}
 use mathlib.Core.List.{List, [], _∷_}
 use native.Mathlib.Decide.{decLt}
 use native.Mathlib.Omega.{arith}
-use borrow.Author.Tests.{eqb-true, eqb-false}
+use borrow.Author.Tests.{eqb-true}
 use lib.Dec.{eqb}
 use lib.ListN.{length, getD, drop, length-take, length-drop}
 use lib.Seq.{getD-take, getD-drop}
@@ -14,9 +14,9 @@ use Rattle.call_line.specs.declared.Line.the-variants.{Taken, Refused}
 use Rattle.call_line.specs.declared.Number.the-variants.{Wrong}
 use Rattle.call_line.specs.declared.Fields.the-variants.{Unreadable}
 use Rattle.call_line.specs.Column.{isDigit, digitsOf, leadingSpaces, columnOf, start, total, cut}
-use Rattle.call_line.specs.Line.{widths, fieldsOf, checked, lineOf}
+use Rattle.call_line.specs.Line.{wide, narrow, Four, fieldsIn, fieldsOf, checked, lineOf}
 use Rattle.call_line.proofs.Reading.{no-digit}
-use Rattle.call_line.proofs.Columns.{other-width, wrong-column}
+use Rattle.call_line.proofs.Columns.{wrong-column, Shape, wide-shape, narrow-shape, other-width, Told, is-wide, is-narrow, other, told-by-length}
 
 -- no byte of s is a newline
 abbrev pub Clear : List ℕ → Type 0
@@ -55,32 +55,40 @@ find (w ∷ ws) j h = pick (find ws) (decLt j w)
     pick ih (yes l) = column zero (omega arith) (omega arith) (omega arith)
     pick ih (no n) = next (j - w) (omega (arith, n)) (ih (j - w) (omega (arith, n))) refl
 
-unreadable : (s : List ℕ) (j : ℕ) → j < length s → getD s j 0 ≡ 10 → fieldsOf s ≡ Unreadable
-unreadable s j h e = pick (eqb (length s) (total widths)) refl
+-- a line with one in it
+unreadable : (ws : List ℕ) → Four ws → (s : List ℕ) → length s ≡ total ws → (j : ℕ) → j < length s → getD s j 0 ≡ 10 → fieldsIn ws s ≡ Unreadable
+unreadable ws w s l j h e = inside (find ws j (omega arith))
   where
-    inside : length s ≡ total widths → In widths j → fieldsOf s ≡ Unreadable
-    inside l (column k m a b) =
-        let p : j ≡ start widths k + (j - start widths k) = omega arith in
-        let i : j - start widths k < getD widths k 0 = omega arith in
-        let z : getD (cut widths k s) (j - start widths k) 0 ≡ 10 =
-        getD-take (getD widths k 0) (drop (start widths k) s) (j - start widths k) 0 i
-        ∙ getD-drop (start widths k) s (j - start widths k) 0
+    inside : In ws j → fieldsIn ws s ≡ Unreadable
+    inside (column k m a b) =
+        let p : j ≡ start ws k + (j - start ws k) = omega arith in
+        let i : j - start ws k < getD ws k 0 = omega arith in
+        let z : getD (cut ws k s) (j - start ws k) 0 ≡ 10 =
+        getD-take (getD ws k 0) (drop (start ws k) s) (j - start ws k) 0 i
+        ∙ getD-drop (start ws k) s (j - start ws k) 0
         ∙ ap (λ (n : ℕ). getD s n 0) (sym p)
         ∙ e in
-        let y : j - start widths k < length (cut widths k s) = simp (length-take, length-drop) (omega arith) in
-        wrong-column s l k m (column-wrong (cut widths k s) (j - start widths k) y z)
+        let y : j - start ws k < length (cut ws k s) = simp (length-take, length-drop) (omega arith) in
+        wrong-column ws s k (omega (arith, w .long)) (column-wrong (cut ws k s) (j - start ws k) y z)
 
-    pick : (t : Bool) → eqb (length s) (total widths) ≡ t → fieldsOf s ≡ Unreadable
-    pick true q = let l : length s ≡ total widths = eqb-true _ _ q in inside l (find widths j (omega arith))
-    pick false q = other-width s (eqb-false _ _ q)
+not-read : (s : List ℕ) (j : ℕ) → j < length s → getD s j 0 ≡ 10 → fieldsOf s ≡ Unreadable
+not-read s j h e = pick (told-by-length s)
+  where
+    in-shape : (ws : List ℕ) → Shape ws → length s ≡ total ws → fieldsOf s ≡ Unreadable
+    in-shape ws w l = w .told s l ∙ unreadable ws (w .columns) s l j h e
+
+    pick : Told s → fieldsOf s ≡ Unreadable
+    pick (is-wide l) = in-shape wide wide-shape l
+    pick (is-narrow l) = in-shape narrow narrow-shape l
+    pick (other u) = u
 
 pub taken-clear : (s : List ℕ) (call : Call) → lineOf s ≡ Taken call → Clear s
 unfolding lineOf checked
 taken-clear s call e j h z =
-    let q : checked (fieldsOf s) ≡ Refused 1 = ap checked (unreadable s j h z) in
+    let q : checked (fieldsOf s) ≡ Refused 1 = ap checked (not-read s j h z) in
     let r : _≡_ {A = ℕ} 0 1 = cc in
     omega arith
 
-pub other-length : (s : List ℕ) → (length s ≡ total widths → ⊥) → lineOf s ≡ Refused 1
+pub other-length : (s : List ℕ) → (length s ≡ total wide → ⊥) → (length s ≡ total narrow → ⊥) → lineOf s ≡ Refused 1
 unfolding lineOf checked
-other-length s n = ap checked (other-width s n)
+other-length s w n = ap checked (other-width s w n)

@@ -4,10 +4,10 @@ use mathlib.Core.Path.{_≡_, refl, sym, ap, _∙_}
 use mathlib.Core.Bool.{Bool, true, false, cond}
 use mathlib.Core.List.{List, [], _∷_, _++_, append-assoc, append-nil}
 use native.Mathlib.Decide.{decLt}
-use lib.Dec.{eqb, ltb}
-use native.Mathlib.Nat.{pow-suc, add-suc, add-zero, zero-mul, zero-add}
+use lib.Dec.{eqb, ltb, lit<}
+use native.Mathlib.Nat.{pow-suc, add-suc, suc-add, add-zero, zero-mul, zero-add}
 use native.Mathlib.Omega.{arith}
-use borrow.Author.Tests.{le-leb, lt-ltb, le-ltb, eq-eqb, ne-eqb, eqb-true, eqb-false}
+use borrow.Author.Tests.{le-leb, lt-ltb, le-ltb, ltb-true, ne-eqb, eqb-true, eqb-false}
 use native.Mathlib.Numerals.{add-one}
 use lib.ListN.{length, getD, replicate, take, drop, length-append, length-replicate, take-append-drop, length-drop}
 use lib.Seq.{take-at, drop-at, drop-drop, length-take-le}
@@ -15,8 +15,8 @@ use Rattle.call_line.specs.declared.Number.{Number}
 use Rattle.call_line.specs.declared.Number.the-variants.{Value, Wrong}
 use Rattle.call_line.specs.Column.{asciiNine, asciiSpace, asciiZero, isDigit, more, afterZero, digitsOf, leadingSpaces, columnOf, column, start}
 use Rattle.call_line.specs.Column.{total, cut, row}
-use Rattle.call_line.specs.declared.Fields.the-variants.{Read, Unreadable}
-use Rattle.call_line.specs.Line.{widths, four, fieldsOf}
+use Rattle.call_line.specs.declared.Fields.the-variants.{Read}
+use Rattle.call_line.specs.Line.{Four, four, fieldsIn}
 use Rattle.call_line.proofs.Reading.{digit-bounds}
 use Rattle.call_line.proofs.Columns.{within}
 
@@ -83,6 +83,7 @@ read-written (suc w) (suc n) l u f =
 record Digit (v b n : ℕ) (s : List ℕ) : Type 0 where
   low : asciiZero ≤ b
   high : b ≤ asciiNine
+  fits : v * 10 + (b - asciiZero) < 2 ^ 64
   rest : more (v * 10 + (b - asciiZero)) s ≡ Value n
 
 digit : (v b n : ℕ) (s : List ℕ) → more v (b ∷ s) ≡ Value n → Digit v b n s
@@ -90,7 +91,7 @@ unfolding more
 digit v b n s e = pick (isDigit b) (ltb (v * 10 + (b - asciiZero)) (2 ^ 64)) refl refl
   where
     pick : (t u : Bool) → isDigit b ≡ t → ltb (v * 10 + (b - asciiZero)) (2 ^ 64) ≡ u → Digit v b n s
-    pick true true p q = record { low = digit-bounds b p .0; high = digit-bounds b p .1; rest = simp (p, q) at e }
+    pick true true p q = record { low = digit-bounds b p .0; high = digit-bounds b p .1; fits = ltb-true _ _ q; rest = simp (p, q) at e }
     pick true false p q =
         let w : Wrong ≡ Value n = simp (p, q) at e in
         let z : _≡_ {A = ℕ} 0 1 = cc in absurd (omega arith)
@@ -156,6 +157,37 @@ whole-is (b ∷ s) k n e = blank (whole-is s (suc k) n) (eqb b asciiSpace) refl
 -- read, then write
 pub written-read : (s : List ℕ) (n : ℕ) → columnOf s ≡ Value n → column (length s) n ≡ s
 written-read s n e = sym (rw zero-add at (whole-is s 0 n e))
+
+-- a column of w places has room for n, and a reader takes it
+abbrev pub Fits : ℕ → ℕ → Type 0
+Fits w n = (n < 10 ^ w) × (n < 2 ^ 64)
+
+-- so it is with what is read
+more-fits : (t : List ℕ) (v n k : ℕ) → more v t ≡ Value n → Fits k v → Fits (k + length t) n
+unfolding more
+more-fits [] v n k e h = let q : v ≡ n = cc in rw (add-zero, ← q) h
+more-fits (b ∷ t) v n k e h =
+    let d = digit v b n t e in
+    rw (add-suc, ← suc-add)
+    (more-fits t (v * 10 + (b - asciiZero)) n (suc k) (d .rest) (omega (arith, pow-suc 10 k, d .low, d .high, h .0), d .fits))
+
+zero-fits : (s : List ℕ) (n : ℕ) → afterZero s ≡ Value n → Fits (suc (length s)) n
+unfolding afterZero
+zero-fits [] n e = let q : 0 ≡ n = cc in rw (← q) (lit< tt, lit< tt)
+zero-fits (b ∷ s) n e = let z : _≡_ {A = ℕ} 0 1 = cc in absurd (omega arith)
+
+read-fits : (s : List ℕ) (n : ℕ) → columnOf s ≡ Value n → Fits (length s) n
+unfolding columnOf leadingSpaces digitsOf
+read-fits [] n e = let z : _≡_ {A = ℕ} 0 1 = cc in absurd (omega arith)
+read-fits (b ∷ s) n e = pick (read-fits s n) (eqb b asciiSpace) refl
+  where
+    nought : (t : Bool) → eqb b asciiSpace ≡ false → eqb b asciiZero ≡ t → Fits (suc (length s)) n
+    nought true f q = zero-fits s n (simp (f, q) at e)
+    nought false f q = rw zero-add at (more-fits (b ∷ s) 0 n 0 (simp (f, q) at e) (lit< tt, lit< tt))
+
+    pick : (columnOf s ≡ Value n → Fits (length s) n) → (t : Bool) → eqb b asciiSpace ≡ t → Fits (suc (length s)) n
+    pick ih true q = let h = ih (simp q at e) in (omega (arith, pow-suc 10 (length s), h .0), h .1)
+    pick ih false q = nought (eqb b asciiZero) q refl
 
 -- a column is as wide as asked
 pub length-column : (w n : ℕ) → length (column w n) ≡ w
@@ -227,24 +259,19 @@ row-of-cuts (w ∷ ws) (n ∷ ns) s e l h =
 
 -- ---- a line
 
--- a column of w places has room for n, and a reader takes it
-abbrev pub Fits : ℕ → ℕ → Type 0
-Fits w n = (n < 10 ^ w) × (n < 2 ^ 64)
-
 -- write a line, then read it
 pub line-written :
-    (k a b c : ℕ) → Fits (getD widths 0 0) k → Fits (getD widths 1 0) a → Fits (getD widths 2 0) b → Fits (getD widths 3 0) c
-    → fieldsOf (row widths (k ∷ a ∷ b ∷ c ∷ [])) ≡ Read k a b c
-unfolding fieldsOf four
-line-written k a b c fk fa fb fc =
-    let ns : List ℕ = k ∷ a ∷ b ∷ c ∷ [] in
-    simp (
-      eq-eqb _ _ (length-row widths ns refl),
-      ap columnOf (cut-row widths ns refl 0 (omega arith)) ∙ read-written (getD widths 0 0) k (omega arith) (fk .0) (fk .1),
-      ap columnOf (cut-row widths ns refl 1 (omega arith)) ∙ read-written (getD widths 1 0) a (omega arith) (fa .0) (fa .1),
-      ap columnOf (cut-row widths ns refl 2 (omega arith)) ∙ read-written (getD widths 2 0) b (omega arith) (fb .0) (fb .1),
-      ap columnOf (cut-row widths ns refl 3 (omega arith)) ∙ read-written (getD widths 3 0) c (omega arith) (fc .0) (fc .1),
-    )
+    (ws : List ℕ) → Four ws → (k a b c : ℕ) → Fits (getD ws 0 0) k → Fits (getD ws 1 0) a → Fits (getD ws 2 0) b → Fits (getD ws 3 0) c
+    → fieldsIn ws (row ws (k ∷ a ∷ b ∷ c ∷ [])) ≡ Read k a b c
+unfolding fieldsIn four
+line-written ws w k a b c fk fa fb fc = simp (column-read 0 k (lit< tt) refl fk, column-read 1 a (lit< tt) refl fa, column-read 2 b (lit< tt) refl fb, column-read 3 c (lit< tt) refl fc)
+  where
+    ns : List ℕ
+    ns = k ∷ a ∷ b ∷ c ∷ []
+
+    column-read : (j n : ℕ) → j < 4 → getD ns j 0 ≡ n → Fits (getD ws j 0) n → columnOf (cut ws j (row ws ns)) ≡ Value n
+    column-read j n h e f =
+        ap columnOf (cut-row ws ns (w .long) j (omega (arith, w .long))) ∙ rw e (read-written (getD ws j 0) n (w .places j h) (f .0) (f .1))
 
 -- fields that were read are four numbers
 were-four :
@@ -257,34 +284,36 @@ were-four (Value l) (Value m) Wrong w k a b c e = let z : _≡_ {A = ℕ} 0 1 = 
 were-four (Value l) Wrong z w k a b c e = let z : _≡_ {A = ℕ} 0 1 = cc in absurd (omega arith)
 were-four Wrong y z w k a b c e = let z : _≡_ {A = ℕ} 0 1 = cc in absurd (omega arith)
 
--- read a line, then write it
-pub line-read : (s : List ℕ) (k a b c : ℕ) → fieldsOf s ≡ Read k a b c → row widths (k ∷ a ∷ b ∷ c ∷ []) ≡ s
-unfolding fieldsOf
-line-read s k a b c e = pick (eqb (length s) (total widths)) refl
-  where
-    field : length s ≡ total widths → (j n : ℕ) → j < 4 → columnOf (cut widths j s) ≡ Value n → column (getD widths j 0) n ≡ cut widths j s
-    field l j n h q =
-        let w : length (cut widths j s) ≡ getD widths j 0 =
-        length-take-le (getD widths j 0) (drop (start widths j) s) (omega (arith, length-drop (start widths j) s, within j h)) in
-        ap (λ (x : ℕ). column x n) (sym w) ∙ written-read (cut widths j s) n q
+module _ (ws : List ℕ) (w : Four ws) (s : List ℕ) (l : length s ≡ total ws) where
+  length-cut : (j : ℕ) → j < 4 → length (cut ws j s) ≡ getD ws j 0
+  length-cut j h =
+      length-take-le (getD ws j 0) (drop (start ws j) s) (omega (arith, length-drop (start ws j) s, within ws j (omega (arith, w .long))))
 
-    pick : (t : Bool) → eqb (length s) (total widths) ≡ t → row widths (k ∷ a ∷ b ∷ c ∷ []) ≡ s
-    pick true q =
-        let l : length s ≡ total widths = eqb-true (length s) (total widths) q in
-        let f = were-four (columnOf (cut widths 0 s)) (columnOf (cut widths 1 s)) (columnOf (cut widths 2 s)) (columnOf (cut widths 3 s)) k a b c
-        (simp q at e) in
-        row-of-cuts widths (k ∷ a ∷ b ∷ c ∷ []) s refl l (each l f)
+  module _ (k a b c : ℕ) (e : fieldsIn ws s ≡ Read k a b c) where
+    numbers : (columnOf (cut ws 0 s) ≡ Value k) × (columnOf (cut ws 1 s) ≡ Value a) × (columnOf (cut ws 2 s) ≡ Value b) × (columnOf (cut ws 3 s) ≡ Value c)
+    unfolding fieldsIn
+    numbers = were-four (columnOf (cut ws 0 s)) (columnOf (cut ws 1 s)) (columnOf (cut ws 2 s)) (columnOf (cut ws 3 s)) k a b c e
+
+    field-fits : (j n : ℕ) → j < 4 → columnOf (cut ws j s) ≡ Value n → Fits (getD ws j 0) n
+    field-fits j n h q = rw (length-cut j h) at (read-fits (cut ws j s) n q)
+
+    pub fields-fit : (j : ℕ) → j < 4 → Fits (getD ws j 0) (getD (k ∷ a ∷ b ∷ c ∷ []) j 0)
+    fields-fit zero h = field-fits 0 k h (numbers .0)
+    fields-fit (suc zero) h = field-fits 1 a h (numbers .1)
+    fields-fit (suc (suc zero)) h = field-fits 2 b h (numbers .2)
+    fields-fit (suc (suc (suc zero))) h = field-fits 3 c h (numbers .3)
+    fields-fit (suc (suc (suc (suc j)))) h = absurd (omega arith)
+
+    -- read a line, then write it
+    pub line-read : row ws (k ∷ a ∷ b ∷ c ∷ []) ≡ s
+    line-read = row-of-cuts ws (k ∷ a ∷ b ∷ c ∷ []) s (w .long) l each
       where
-        each :
-            length s ≡ total widths
-            → (columnOf (cut widths 0 s) ≡ Value k) × (columnOf (cut widths 1 s) ≡ Value a) × (columnOf (cut widths 2 s) ≡ Value b)
-            × (columnOf (cut widths 3 s) ≡ Value c)
-            → (j : ℕ) → j < 4 → column (getD widths j 0) (getD (k ∷ a ∷ b ∷ c ∷ []) j 0) ≡ cut widths j s
-        each l f zero h = field l 0 k h (f .0)
-        each l f (suc zero) h = field l 1 a h (f .1)
-        each l f (suc (suc zero)) h = field l 2 b h (f .2)
-        each l f (suc (suc (suc zero))) h = field l 3 c h (f .3)
-        each l f (suc (suc (suc (suc j)))) h = absurd (omega arith)
-    pick false q =
-        let u : Unreadable ≡ Read k a b c = simp q at e in
-        let z : _≡_ {A = ℕ} 0 1 = cc in absurd (omega arith)
+        field : (j n : ℕ) → j < 4 → columnOf (cut ws j s) ≡ Value n → column (getD ws j 0) n ≡ cut ws j s
+        field j n h q = ap (λ (x : ℕ). column x n) (sym (length-cut j h)) ∙ written-read (cut ws j s) n q
+
+        each : (j : ℕ) → j < length ws → column (getD ws j 0) (getD (k ∷ a ∷ b ∷ c ∷ []) j 0) ≡ cut ws j s
+        each zero h = field 0 k (lit< tt) (numbers .0)
+        each (suc zero) h = field 1 a (lit< tt) (numbers .1)
+        each (suc (suc zero)) h = field 2 b (lit< tt) (numbers .2)
+        each (suc (suc (suc zero))) h = field 3 c (lit< tt) (numbers .3)
+        each (suc (suc (suc (suc j)))) h = absurd (omega (arith, w .long))

@@ -1,12 +1,9 @@
 -- What the table of kinds says of a range of numbers, and of the rest. Assumes nothing.
 use Prim.Native.Nat.{ℕ, zero, suc, _≤_, _<_}
 use mathlib.Core.Path.{_≡_, refl}
-use mathlib.Core.Bool.{true}
 use native.Mathlib.Omega.{arith}
-use borrow.Author.Tests.{leb-true}
-use Rattle.packets.specs.Summary.{largestPacket}
 use Rattle.call_line.specs.declared.Line.the-variants.{Refused}
-use Rattle.call_line.specs.Line.{none, alone, flagged, ruleOf, inTable, callOf}
+use Rattle.call_line.specs.Line.{none, alone, flagged, ruleOf, callOf}
 
 pub rule-12 : (k : ℕ) → 1 ≤ k → k < 3 → ruleOf k ≡ alone
 rule-12 zero l u = absurd (omega arith)
@@ -44,8 +41,3 @@ call-rest (suc (suc (suc (suc (suc zero))))) a b c n1 n2 n3 n4 n5 n6 n7 = absurd
 call-rest (suc (suc (suc (suc (suc (suc zero)))))) a b c n1 n2 n3 n4 n5 n6 n7 = absurd (n6 refl)
 call-rest (suc (suc (suc (suc (suc (suc (suc zero))))))) a b c n1 n2 n3 n4 n5 n6 n7 = absurd (n7 refl)
 call-rest (suc (suc (suc (suc (suc (suc (suc (suc k)))))))) a b c n1 n2 n3 n4 n5 n6 n7 = refl
-
--- a packet that the table allows has a size that fits
-pub packet-fits : (k a b c : ℕ) → k ≡ 5 → inTable k a b c ≡ true → c ≤ largestPacket
-unfolding inTable
-packet-fits k a b c e h = leb-true _ _ (rw e at h)

@@ -3,10 +3,12 @@ use Prim.Native.Nat.{ℕ, zero, suc, _+_, _-_, _^_, _≤_, _<_}
 use mathlib.Core.Path.{_≡_, refl, sym, ap, _∙_}
 use mathlib.Core.Bool.{Bool, true, false, cond}
 use mathlib.Core.List.{List, [], _∷_, _++_, append-assoc, append-nil}
+use mathlib.Core.Logic.{_⊎_, inl, inr, ⊎-elim}
+use native.Mathlib.Decide.{decLt}
 use native.Mathlib.Omega.{arith}
 use native.Mathlib.Numerals.{add-one}
 use native.Mathlib.Nat.{zero-add}
-use borrow.Author.Tests.{eqb-true, eqb-false, leb-true, eq-eqb, ne-eqb, le-leb, lt-ltb, le-ltb, ltb-false}
+use borrow.Author.Tests.{eqb-true, eqb-false, eq-eqb, ne-eqb, lt-ltb, le-ltb, ltb-false}
 use borrow.Rule.Slice.PartMut.{midOf, putMid, mid-len}
 use denote.Array.{Array, each}
 use denote.Laws.{Is}
@@ -14,25 +16,26 @@ use denote.Plain.{UInt}
 use denote.Shadow.{shadow}
 use mir.Syntax.{w64}
 use mir.Val.{Val}
-use lib.Dec.{eqb, leb, ltb, lit<}
-use lib.ListN.{length, getD, take, drop, set, length-append, length-drop, drop-of-length-le}
+use lib.Dec.{eqb, ltb, lit<, lit≤}
+use lib.ListN.{length, getD, take, drop, set, length-append, length-drop, drop-of-length-le, List·getD-eq-default}
 use lib.Seq.{take-at, take-all, drop-at}
 use Rattle.buffer.specs.Laid.{laid}
 use Rattle.buffer.proofs.Laying.{mid-laid, byte-laid, length-laid, laid-twice}
-use Rattle.packets.specs.Summary.{largestPacket, packetRefusal}
+use Rattle.packets.specs.Summary.{largestPacket}
+use Rattle.packets.proofs.Totals.{packet-taken}
 use Rattle.loss_controller.specs.Setters.{timeRefusal}
 use Rattle.call_line.specs.declared.Fields.{Fields}
-use Rattle.call_line.specs.declared.Fields.the-variants.{Read as Fields·Read}
 use Rattle.call_line.specs.declared.Call.{Call}
 use Rattle.call_line.specs.declared.Call.the-variants.{Estimate, Acknowledged, AlrOn, AlrOff, CapacityIs, CapacityNone, Packet, Report, Read}
 use Rattle.call_line.specs.declared.Line.the-variants.{Taken, Refused, ReportRefused}
 use Rattle.call_line.specs.Column.{column, start, total, row}
-use Rattle.call_line.specs.Line.{widths, inTable, rateCode, unlessRefused, byFlag, reportOf, alrOf, capacityOf, packetOf, callOf, valuesOf, checked, lineOf}
-use Rattle.call_line.specs.Write.{asciiNewline, lineText, lineBytes, refusalOf, callRefusal, writeRefusal, written, OfType, ReadBack}
-use Rattle.call_line.specs.Write.{CallNumbers, Kept, WriteKeeps, WriteRead, ReadWrite}
-use Rattle.call_line.proofs.Columns.{start-next, within}
-use Rattle.call_line.proofs.RoundTrip.{length-column, length-row, row-more, length-row-first}
-use Rattle.call_line.proofs.Calls.{taken-fields, four-long, call-read, line-says}
+use Rattle.call_line.specs.Line.{wide, narrow, fieldsOf, inTable, rateCode, unlessRefused, byFlag, reportOf, alrOf, capacityOf, packetOf, callOf}
+use Rattle.call_line.specs.Line.{valuesOf, checked, lineOf}
+use Rattle.call_line.specs.Write.{asciiNewline, lineText, lineBytes, refusalOf, fields, callRefusal, writeRefusal, written, OfType, ReadBack}
+use Rattle.call_line.specs.Write.{CallNumbers, Kept, WriteKeeps, WriteRead, ReadWrite, WideRead, NarrowRead, NarrowTaken, TwoWidths}
+use Rattle.call_line.proofs.Columns.{starts-within, within, Shape, wide-shape, narrow-shape, Told, is-wide, is-narrow, other, told-by-length}
+use Rattle.call_line.proofs.RoundTrip.{Fits, length-column, length-row, row-more, length-row-first}
+use Rattle.call_line.proofs.Calls.{taken-fields, four-values, four-long, call-read, values-fit, line-says}
 
 -- ---- what a call is turned down with
 
@@ -52,18 +55,18 @@ report-number a = pick (rateCode a) (eqb (rateCode a) 0) refl
     pick n true q = sym (eqb-true n 0 q)
     pick n false q = refl
 
--- the table allows every call of the type, so that 1 does not come
+-- the table allows every call, so that 1 does not come
 pub call-numbers : CallNumbers
 unfolding valuesOf callRefusal checked inTable callOf alrOf capacityOf packetOf byFlag
-call-numbers (Estimate rate) h = unless-number (rateCode rate) (Estimate rate)
-call-numbers (Acknowledged rate) h = unless-number (rateCode rate) (Acknowledged rate)
-call-numbers (AlrOn start) h = unless-number (timeRefusal start) (AlrOn start)
-call-numbers AlrOff h = refl
-call-numbers (CapacityIs rate) h = unless-number (rateCode rate) (CapacityIs rate)
-call-numbers CapacityNone h = refl
-call-numbers (Packet time lost size) h = rw (le-leb size largestPacket h) (unless-number _ (Packet time lost size))
-call-numbers (Report rate) h = report-number rate
-call-numbers Read h = refl
+call-numbers (Estimate rate) = unless-number (rateCode rate) (Estimate rate)
+call-numbers (Acknowledged rate) = unless-number (rateCode rate) (Acknowledged rate)
+call-numbers (AlrOn start) = unless-number (timeRefusal start) (AlrOn start)
+call-numbers AlrOff = refl
+call-numbers (CapacityIs rate) = unless-number (rateCode rate) (CapacityIs rate)
+call-numbers CapacityNone = refl
+call-numbers (Packet time lost size) = unless-number _ (Packet time lost size)
+call-numbers (Report rate) = report-number rate
+call-numbers Read = refl
 
 -- ---- what is written is read
 
@@ -76,37 +79,78 @@ report-not-turned-down : (a : ℕ) → refusalOf (reportOf a) ≡ 0 → reportOf
 unfolding reportOf
 report-not-turned-down a h = simp (eq-eqb _ _ (sym (report-number a) ∙ h))
 
--- four numbers that have room are read from their text
-line-of :
-    (k a b c : ℕ) → k < 8 → a < 2 ^ 64 → b < 2 ^ 64 → c ≤ largestPacket
-    → lineOf (row widths (k ∷ a ∷ b ∷ c ∷ [])) ≡ checked (Fields·Read k a b c)
-line-of k a b c hk ha hb hc =
-    line-says k a b c (omega arith, omega arith) (omega arith, ha) (omega arith, hb) (omega arith, omega arith)
-
-pub call-says : (call : Call) → OfType call → callRefusal call ≡ 0 → lineOf (row widths (valuesOf call)) ≡ Taken call
+values-say : (call : Call) → callRefusal call ≡ 0 → checked (fields (valuesOf call)) ≡ Taken call
 unfolding valuesOf callRefusal checked inTable callOf alrOf capacityOf packetOf byFlag
-call-says (Estimate a) t h = line-of 1 a 0 0 (omega arith) (t 1) (omega arith) (omega arith) ∙ not-turned-down (rateCode a) (Estimate a) h
-call-says (Acknowledged a) t h = line-of 2 a 0 0 (omega arith) (t 1) (omega arith) (omega arith) ∙ not-turned-down (rateCode a) (Acknowledged a) h
-call-says (AlrOn a) t h = line-of 3 a 1 0 (omega arith) (t 1) (omega arith) (omega arith) ∙ not-turned-down (timeRefusal a) (AlrOn a) h
-call-says AlrOff t h = line-of 3 0 0 0 (omega arith) (omega arith) (omega arith) (omega arith)
-call-says (CapacityIs a) t h = line-of 4 a 1 0 (omega arith) (t 1) (omega arith) (omega arith) ∙ not-turned-down (rateCode a) (CapacityIs a) h
-call-says CapacityNone t h = line-of 4 0 0 0 (omega arith) (omega arith) (omega arith) (omega arith)
-call-says (Packet time lost size) t h = pick (leb size largestPacket) refl h
-  where
-    pick :
-        (b : Bool) → leb size largestPacket ≡ b → refusalOf (cond b (packetOf time lost size) (Refused 1)) ≡ 0
-        → lineOf (row widths (5 ∷ time ∷ lost ∷ size ∷ [])) ≡ Taken (Packet time lost size)
-    pick true q h =
-        line-of 5 time lost size (omega arith) (t 1) (t 2) (leb-true _ _ q)
-        ∙ rw q (not-turned-down (packetRefusal (record { «local_send_time» = time; size = size; lost = lost })) (Packet time lost size) h)
-    pick false q h = absurd (omega arith)
-call-says (Report a) t h = line-of 6 a 0 0 (omega arith) (t 1) (omega arith) (omega arith) ∙ report-not-turned-down a h
-call-says Read t h = line-of 7 0 0 0 (omega arith) (omega arith) (omega arith) (omega arith)
+values-say (Estimate rate) h = not-turned-down (rateCode rate) (Estimate rate) h
+values-say (Acknowledged rate) h = not-turned-down (rateCode rate) (Acknowledged rate) h
+values-say (AlrOn start) h = not-turned-down (timeRefusal start) (AlrOn start) h
+values-say AlrOff h = refl
+values-say (CapacityIs rate) h = not-turned-down (rateCode rate) (CapacityIs rate) h
+values-say CapacityNone h = refl
+values-say (Packet time lost size) h = not-turned-down _ (Packet time lost size) h
+values-say (Report rate) h = report-not-turned-down rate h
+values-say Read h = refl
+
+-- of the four values the kind is below 8, and the size is one that is taken
+kind-small : (call : Call) → getD (valuesOf call) 0 0 < 8
+unfolding valuesOf
+kind-small (Estimate rate) = omega arith
+kind-small (Acknowledged rate) = omega arith
+kind-small (AlrOn start) = omega arith
+kind-small AlrOff = omega arith
+kind-small (CapacityIs rate) = omega arith
+kind-small CapacityNone = omega arith
+kind-small (Packet time lost size) = omega arith
+kind-small (Report rate) = omega arith
+kind-small Read = omega arith
+
+size-small : (call : Call) → callRefusal call ≡ 0 → getD (valuesOf call) 3 0 ≤ largestPacket
+unfolding valuesOf
+size-small (Estimate rate) h = omega arith
+size-small (Acknowledged rate) h = omega arith
+size-small (AlrOn start) h = omega arith
+size-small AlrOff h = omega arith
+size-small (CapacityIs rate) h = omega arith
+size-small CapacityNone h = omega arith
+size-small (Packet time lost size) h = packet-taken _ (sym (call-numbers (Packet time lost size)) ∙ h) .size-within
+size-small (Report rate) h = omega arith
+size-small Read h = omega arith
+
+-- a call is read from its text in columns of any widths in which its values have room
+call-says-in :
+    (ws : List ℕ) → Shape ws → (call : Call) → OfType call → ((j : ℕ) → j < 4 → getD (valuesOf call) j 0 < 10 ^ getD ws j 0) → callRefusal call ≡ 0
+    → lineOf (row ws (valuesOf call)) ≡ Taken call
+call-says-in ws w call t f h =
+    let fits : (j : ℕ) → j < 4 → Fits (getD ws j 0) (getD (valuesOf call) j 0) = λ j l. (f j l, t j) in
+    ap (λ (ns : List ℕ). lineOf (row ws ns)) (four-values call)
+    ∙ line-says ws w _ _ _ _ (fits 0 (lit< tt)) (fits 1 (lit< tt)) (fits 2 (lit< tt)) (fits 3 (lit< tt))
+    ∙ values-say call h
+
+-- kind, A and B have room in both widths, and so the size decides
+has-room :
+    (ws : List ℕ) → 8 ≤ 10 ^ getD ws 0 0 → 2 ^ 64 ≤ 10 ^ getD ws 1 0 → 2 ^ 64 ≤ 10 ^ getD ws 2 0 → (call : Call) → OfType call
+    → getD (valuesOf call) 3 0 < 10 ^ getD ws 3 0 → (j : ℕ) → j < 4 → getD (valuesOf call) j 0 < 10 ^ getD ws j 0
+has-room ws k a b call t s zero h = omega (arith, kind-small call)
+has-room ws k a b call t s (suc zero) h = omega (arith, t 1)
+has-room ws k a b call t s (suc (suc zero)) h = omega (arith, t 2)
+has-room ws k a b call t s (suc (suc (suc zero))) h = s
+has-room ws k a b call t s (suc (suc (suc (suc j)))) h = absurd (omega arith)
+
+pub call-says : (call : Call) → OfType call → callRefusal call ≡ 0 → lineOf (row wide (valuesOf call)) ≡ Taken call
+call-says call t h =
+    call-says-in wide wide-shape call t (has-room wide (lit≤ tt) (lit≤ tt) (lit≤ tt) call t (omega (arith, size-small call h))) h
+
+pub narrow-taken : NarrowTaken
+narrow-taken call t s h = call-says-in narrow narrow-shape call t (has-room narrow (lit≤ tt) (lit≤ tt) (lit≤ tt) call t s) h
 
 -- ---- the round trips
 
-text-wide : (call : Call) → length (row widths (valuesOf call)) ≡ total widths
-text-wide call = length-row widths (valuesOf call) (sym (four-long call))
+text-wide : (call : Call) → length (row wide (valuesOf call)) ≡ total wide
+text-wide call = length-row wide (valuesOf call) (sym (four-long call))
+
+pub text-long : (call : Call) → length (lineText call) ≡ lineBytes
+unfolding lineText
+text-long call = length-append (row wide (valuesOf call)) (asciiNewline ∷ []) ∙ rw (text-wide call)
 
 turned-down-first : (call : Call) (room : ℕ) → writeRefusal call room ≡ 0 → callRefusal call ≡ 0
 unfolding writeRefusal
@@ -120,25 +164,60 @@ turned-down-first call room h = pick (eqb (callRefusal call) 0) refl h
 pub write-read : WriteRead
 unfolding written lineText
 write-read call out t h =
-    rw (eq-eqb _ _ h, append-assoc, take-at (row widths (valuesOf call)) (asciiNewline ∷ drop lineBytes out) (total widths) (text-wide call))
+    rw (eq-eqb _ _ h, append-assoc, take-at (row wide (valuesOf call)) (asciiNewline ∷ drop lineBytes out) (total wide) (text-wide call))
     (call-says call t (turned-down-first call (length out) h))
 
-pub taken-wide : (s : List ℕ) (call : Call) → lineOf s ≡ Taken call → length s ≡ total widths
-taken-wide s call e = ap length (sym (call-read s call e)) ∙ text-wide call
+-- ---- what is read is written
 
--- what is read is written
+-- the call of a line that is taken is not turned down
+pub taken-allowed : (s : List ℕ) (call : Call) → lineOf s ≡ Taken call → callRefusal call ≡ 0
+unfolding callRefusal lineOf
+taken-allowed s call e = ap (λ (f : Fields). refusalOf (checked f)) (sym (taken-fields s call e)) ∙ ap refusalOf e
+
+pub wide-read : WideRead
+wide-read s call l e = call-read wide wide-shape s l call e
+
+pub narrow-read : NarrowRead
+unfolding lineText
+narrow-read s call l e =
+    record {
+      columns = call-read narrow narrow-shape s l call e;
+      size = values-fit narrow narrow-shape s l call e 3 (lit< tt) .0;
+      rewritten = λ q. omega (arith, ap length q, text-long call, length-append s (asciiNewline ∷ []));
+    }
+
+pub two-widths : TwoWidths
+unfolding lineOf checked
+two-widths s call e = pick (told-by-length s)
+  where
+    pick : Told s → (length s ≡ total wide) ⊎ (length s ≡ total narrow)
+    pick (is-wide l) = inl l
+    pick (is-narrow l) = inr l
+    pick (other u) =
+        let q : checked (fieldsOf s) ≡ Refused 1 = ap checked u in
+        let z : _≡_ {A = ℕ} 0 1 = cc in absurd (omega arith)
+
+-- and its numbers are of 64 bits
+pub taken-of-type : (s : List ℕ) (call : Call) → lineOf s ≡ Taken call → OfType call
+taken-of-type s call e j = ⊎-elim (small wide wide-shape) (small narrow narrow-shape) (two-widths s call e)
+  where
+    small : (ws : List ℕ) → Shape ws → length s ≡ total ws → getD (valuesOf call) j 0 < 2 ^ 64
+    small ws w l = pick (decLt j 4)
+      where
+        pick : Dec (j < 4) → getD (valuesOf call) j 0 < 2 ^ 64
+        pick (yes h) = values-fit ws w s l call e j h .1
+        pick (no h) = rw (List·getD-eq-default (valuesOf call) 0 {n = j} (omega (arith, h, four-long call))) (lit< tt)
+
 pub read-write : ReadWrite
-unfolding writeRefusal written lineText callRefusal lineOf
-read-write s call e out =
-    let r : callRefusal call ≡ 0 = ap (λ (f : Fields). refusalOf (checked f)) (sym (taken-fields s call e)) ∙ ap refusalOf e in
-    let w = taken-wide s call e in
-    let q : writeRefusal call (length out) ≡ cond (ltb (length out) (length s + 1)) 13 0 = rw (eq-eqb _ _ r, w) in
+unfolding writeRefusal written lineText
+read-write s call w e out =
+    let q : writeRefusal call (length out) ≡ cond (ltb (length out) (length s + 1)) 13 0 = rw (eq-eqb _ _ (taken-allowed s call e), w) in
     record {
       refusal = q;
       text = λ h.
           let l : length s + 1 ≤ length out = omega arith in
           let z : writeRefusal call (length out) ≡ 0 = q ∙ rw (le-ltb _ _ l) in
-          rw (eq-eqb _ _ z, call-read s call e, w) (append-assoc s (asciiNewline ∷ []) (drop lineBytes out));
+          rw (eq-eqb _ _ z, wide-read s call w e, w) (append-assoc s (asciiNewline ∷ []) (drop lineBytes out));
     }
 
 -- ---- what stays
@@ -153,10 +232,6 @@ roomy call room h = pick (eqb (callRefusal call) 0) (ltb room lineBytes) refl re
     pick true true q p h = absurd (omega arith)
     pick true false q p h = ltb-false _ _ p
     pick false u q p h = absurd (eqb-false _ _ q h)
-
-pub text-long : (call : Call) → length (lineText call) ≡ lineBytes
-unfolding lineText
-text-long call = length-append (row widths (valuesOf call)) (asciiNewline ∷ []) ∙ rw (text-wide call)
 
 pub write-keeps : WriteKeeps
 unfolding written
@@ -193,43 +268,39 @@ pub column-laid :
 column-laid a e n xs ys h l q =
     rw (q, mid-len a e xs l) (mid-laid a e xs (column (e - a) n) h (length-column (e - a) n))
 
-pub starts-within : (k : ℕ) → k ≤ 4 → start widths k ≤ total widths
-starts-within zero h = omega arith
-starts-within (suc k) h = omega (arith, rw add-one at (start-next widths k (omega arith)), within k (omega arith))
-
 -- the first k columns are written, and nothing behind them
 abbrev pub FirstColumns : List ℕ → List ℕ → List ℕ → ℕ → Type 0
-FirstColumns out₀ ns out k = out ≡ laid 0 (row (take k widths) (take k ns)) out₀
+FirstColumns out₀ ns out k = out ≡ laid 0 (row (take k wide) (take k ns)) out₀
 
 pub no-column : (out ns : List ℕ) → FirstColumns out ns out 0
 unfolding row
 no-column out ns = refl
 
-module _ (out₀ ns out : List ℕ) (l : length widths ≡ length ns) (r : lineBytes ≤ length out₀) where
+module _ (out₀ ns out : List ℕ) (l : length wide ≡ length ns) (r : lineBytes ≤ length out₀) where
   pub columns-kept : (k : ℕ) → k ≤ 4 → FirstColumns out₀ ns out k → length out ≡ length out₀
   columns-kept k h c =
-      ap length c ∙ length-laid 0 (start widths k) (row (take k widths) (take k ns)) out₀ (length-row-first widths ns l k h) (omega (arith, starts-within k h))
+      ap length c ∙ length-laid 0 (start wide k) (row (take k wide) (take k ns)) out₀ (length-row-first wide ns l k h) (omega (arith, starts-within wide k h))
 
   -- one column more
   pub column-more :
-      (k from : ℕ) (ys : List ℕ) → k < 4 → from ≡ start widths k → length out ≡ length out₀
-      → ys ≡ column (length (midOf from (from + getD widths k 0 - from) out)) (getD ns k 0) → FirstColumns out₀ ns out k
-      → FirstColumns out₀ ns (putMid from (from + getD widths k 0 - from) out ys) (k + 1)
+      (k from : ℕ) (ys : List ℕ) → k < 4 → from ≡ start wide k → length out ≡ length out₀
+      → ys ≡ column (length (midOf from (from + getD wide k 0 - from) out)) (getD ns k 0) → FirstColumns out₀ ns out k
+      → FirstColumns out₀ ns (putMid from (from + getD wide k 0 - from) out ys) (k + 1)
   column-more k from ys h f e q c =
-      let p = row (take k widths) (take k ns) in
-      let w : from + getD widths k 0 - from ≡ getD widths k 0 = omega arith in
-      let b = within k h .0 in
-      column-laid from (from + getD widths k 0) (getD ns k 0) out ys (omega arith) (omega arith) q
-      ∙ rw (w, c, add-one, row-more widths ns l k h)
+      let p = row (take k wide) (take k ns) in
+      let w : from + getD wide k 0 - from ≡ getD wide k 0 = omega arith in
+      let b = within wide k h in
+      column-laid from (from + getD wide k 0) (getD ns k 0) out ys (omega arith) (omega arith) q
+      ∙ rw (w, c, add-one, row-more wide ns l k h)
       (rw (zero-add from) at
-      (laid-twice 0 from p out₀ (length-row-first widths ns l k (omega arith) ∙ sym f) (omega arith) (column (getD widths k 0) (getD ns k 0))))
+      (laid-twice 0 from p out₀ (length-row-first wide ns l k (omega arith) ∙ sym f) (omega arith) (column (getD wide k 0) (getD ns k 0))))
 
   -- the newline behind the last
-  pub newline-laid : FirstColumns out₀ ns out 4 → set out (total widths) asciiNewline ≡ (row widths ns ++ (asciiNewline ∷ [])) ++ drop lineBytes out₀
+  pub newline-laid : FirstColumns out₀ ns out 4 → set out (total wide) asciiNewline ≡ (row wide ns ++ (asciiNewline ∷ [])) ++ drop lineBytes out₀
   newline-laid c =
-      let w = length-row widths ns l in
-      let f : 0 + length (row widths ns ++ (asciiNewline ∷ [])) ≡ lineBytes = simp (length-append, w) in
-      rw (c, take-all 4 ns (omega arith), byte-laid out₀ (row widths ns) 0 (total widths) asciiNewline (omega arith) (omega arith), f)
+      let w = length-row wide ns l in
+      let f : 0 + length (row wide ns ++ (asciiNewline ∷ [])) ≡ lineBytes = simp (length-append, w) in
+      rw (c, take-all 4 ns (omega arith), byte-laid out₀ (row wide ns) 0 (total wide) asciiNewline (omega arith) (omega arith), f)
 
 -- ---- what `write_line` leaves
 

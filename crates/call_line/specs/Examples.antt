@@ -13,7 +13,7 @@ use Rattle.call_line.specs.declared.Line.the-variants.{Taken, Refused, R
 use Rattle.call_line.specs.Column.{isDigit, more, afterZero, digitsOf, leadingSpaces, columnOf, column, row}
 use Rattle.call_line.specs.Digits.{lastDigits}
 use Rattle.call_line.specs.Write.{lineText, callRefusal, writeRefusal, written}
-use Rattle.call_line.specs.Line.{widths, four, fieldsOf, inTable, unlessRefused, byFlag, reportOf, alrOf, capacityOf, packetOf, callOf, valuesOf, checked, lineOf}
+use Rattle.call_line.specs.Line.{wide, narrow, four, fieldsIn, fieldsOf, inTable, unlessRefused, byFlag, reportOf, alrOf, capacityOf, packetOf, callOf, valuesOf, checked, lineOf}
 
 -- ---- columns
 
@@ -69,47 +69,65 @@ last-digits = refl
 
 -- ---- lines
 
--- the line with these fields
+-- the line with these fields, and the narrow one
 line : ℕ → ℕ → ℕ → ℕ → List ℕ
-line kind a b c = row widths (kind ∷ a ∷ b ∷ c ∷ [])
+line kind a b c = row wide (kind ∷ a ∷ b ∷ c ∷ [])
+
+narrow-line : ℕ → ℕ → ℕ → ℕ → List ℕ
+narrow-line kind a b c = row narrow (kind ∷ a ∷ b ∷ c ∷ [])
 
 -- document 01's whole example, byte by byte: an estimate of 1,000,000 bit/s, and a read
 example-estimate :
     lineOf
     ((32 ∷ 49 ∷ [])
     ++ ((32 ∷ 52 ∷ 54 ∷ 57 ∷ 54 ∷ 56 ∷ 51 ∷ 55 ∷ 49 ∷ 52 ∷ 54 ∷ 54 ∷ 56 ∷ 52 ∷ 54 ∷ 56 ∷ 54 ∷ 51 ∷ 51 ∷ 54 ∷ [])
-    ++ ((replicate 19 32 ++ (48 ∷ [])) ++ (replicate 5 32 ++ (48 ∷ []))))) ≡
+    ++ ((replicate 19 32 ++ (48 ∷ [])) ++ (replicate 7 32 ++ (48 ∷ []))))) ≡
     Taken (Estimate 4696837146684686336)
-unfolding lineOf checked fieldsOf four columnOf leadingSpaces digitsOf isDigit more afterZero inTable callOf unlessRefused rateRefusal ofBits toBits lt signBit
+unfolding lineOf checked fieldsOf fieldsIn four columnOf leadingSpaces digitsOf isDigit more afterZero inTable callOf unlessRefused rateRefusal ofBits toBits lt signBit
 example-estimate = refl
 
 example-read :
     lineOf
     ((32 ∷ 55 ∷ [])
-    ++ ((replicate 19 32 ++ (48 ∷ [])) ++ ((replicate 19 32 ++ (48 ∷ [])) ++ (replicate 5 32 ++ (48 ∷ []))))) ≡
+    ++ ((replicate 19 32 ++ (48 ∷ [])) ++ ((replicate 19 32 ++ (48 ∷ [])) ++ (replicate 7 32 ++ (48 ∷ []))))) ≡
     Taken Read
-unfolding lineOf checked fieldsOf four columnOf leadingSpaces digitsOf isDigit more afterZero inTable callOf
+unfolding lineOf checked fieldsOf fieldsIn four columnOf leadingSpaces digitsOf isDigit more afterZero inTable callOf
 example-read = refl
 
--- an empty line, one without its last byte, one with a CR behind it, one whose kind is "01", one whose C is blank
+-- the read in 48 columns
+example-narrow :
+    lineOf
+    ((32 ∷ 55 ∷ [])
+    ++ ((replicate 19 32 ++ (48 ∷ [])) ++ ((replicate 19 32 ++ (48 ∷ [])) ++ (replicate 5 32 ++ (48 ∷ []))))) ≡
+    Taken Read
+unfolding lineOf checked fieldsOf fieldsIn four columnOf leadingSpaces digitsOf isDigit more afterZero inTable callOf
+example-narrow = refl
+
+-- an empty line, one with a CR behind it, one whose kind is "01", one whose C is blank, and one that ends with B; a narrow one with a CR, and with one and
+-- with two spaces behind it; a narrow one without its last byte, and a wide one with a space behind it
 out-of-shape :
     map lineOf
     ([]
-    ∷ ((32 ∷ 55 ∷ []) ++ ((replicate 19 32 ++ (48 ∷ [])) ++ ((replicate 19 32 ++ (48 ∷ [])) ++ replicate 5 32)))
     ∷ (line 7 0 0 0 ++ (13 ∷ []))
-    ∷ ((48 ∷ 49 ∷ []) ++ ((replicate 19 32 ++ (48 ∷ [])) ++ ((replicate 19 32 ++ (48 ∷ [])) ++ (replicate 5 32 ++ (48 ∷ [])))))
-    ∷ ((32 ∷ 55 ∷ []) ++ ((replicate 19 32 ++ (48 ∷ [])) ++ ((replicate 19 32 ++ (48 ∷ [])) ++ replicate 6 32)))
+    ∷ ((48 ∷ 49 ∷ []) ++ ((replicate 19 32 ++ (48 ∷ [])) ++ ((replicate 19 32 ++ (48 ∷ [])) ++ (replicate 7 32 ++ (48 ∷ [])))))
+    ∷ ((32 ∷ 55 ∷ []) ++ ((replicate 19 32 ++ (48 ∷ [])) ++ ((replicate 19 32 ++ (48 ∷ [])) ++ replicate 8 32)))
+    ∷ ((32 ∷ 55 ∷ []) ++ ((replicate 19 32 ++ (48 ∷ [])) ++ (replicate 19 32 ++ (48 ∷ []))))
+    ∷ (narrow-line 7 0 0 0 ++ (13 ∷ []))
+    ∷ (narrow-line 7 0 0 0 ++ (32 ∷ []))
+    ∷ (narrow-line 7 0 0 0 ++ (32 ∷ 32 ∷ []))
+    ∷ ((32 ∷ 55 ∷ []) ++ ((replicate 19 32 ++ (48 ∷ [])) ++ ((replicate 19 32 ++ (48 ∷ [])) ++ replicate 5 32)))
+    ∷ (line 7 0 0 0 ++ (32 ∷ []))
     ∷ []) ≡
-    replicate 5 (Refused 1)
-unfolding line row column lineOf checked fieldsOf four columnOf leadingSpaces digitsOf isDigit more afterZero inTable callOf unlessRefused
+    replicate 10 (Refused 1)
+unfolding line narrow-line row column lineOf checked fieldsOf fieldsIn four columnOf leadingSpaces digitsOf isDigit more afterZero inTable callOf unlessRefused
     rateRefusal ofBits toBits lt signBit
 out-of-shape = refl
 
--- kinds 0 and 8; a B or a C where the table says 0; a read with an A; a packet of 65,536 bytes
+-- kinds 0 and 8; a B or a C where the table says 0, also a C above 9,999,999; a read with an A
 out-of-table :
-    map lineOf (line 0 0 0 0 ∷ line 8 0 0 0 ∷ line 1 0 1 0 ∷ line 2 0 0 1 ∷ line 6 0 0 1 ∷ line 7 1 0 0 ∷ line 5 0 0 65536 ∷ []) ≡
+    map lineOf (line 0 0 0 0 ∷ line 8 0 0 0 ∷ line 1 0 1 0 ∷ line 2 0 0 1 ∷ line 6 0 0 1 ∷ line 6 0 0 10000000 ∷ line 7 1 0 0 ∷ []) ≡
     replicate 7 (Refused 1)
-unfolding line row column lineOf checked fieldsOf four columnOf leadingSpaces digitsOf isDigit more afterZero inTable callOf
+unfolding line row column lineOf checked fieldsOf fieldsIn four columnOf leadingSpaces digitsOf isDigit more afterZero inTable callOf
 out-of-table = refl
 
 -- DECISIONS 1, 4 and 18. ALR: on at 0 ns, at 4 × 10^18 ns and a ns later; off, and off with a start; the flag 2, also with a start that is too late;
@@ -126,7 +144,7 @@ alr :
     ∷ line 3 1 2 1
     ∷ []) ≡
     Taken (AlrOn 0) ∷ Taken (AlrOn (4 * 10 ^ 18)) ∷ Refused 3 ∷ Taken AlrOff ∷ Refused 1 ∷ Refused 8 ∷ Refused 8 ∷ Refused 1 ∷ []
-unfolding line row column lineOf checked fieldsOf four columnOf leadingSpaces digitsOf isDigit more afterZero inTable callOf unlessRefused byFlag
+unfolding line row column lineOf checked fieldsOf fieldsIn four columnOf leadingSpaces digitsOf isDigit more afterZero inTable callOf unlessRefused byFlag
     alrOf timeRefusal
 alr = refl
 
@@ -144,29 +162,41 @@ capacity :
     ∷ []) ≡
     Taken (CapacityIs 0) ∷ Taken (CapacityIs 0x430C6BF526340000) ∷ Refused 2 ∷ Taken (CapacityIs 0x7FF0000000000000) ∷ Taken CapacityNone ∷ Refused 1
     ∷ Refused 8 ∷ Refused 1 ∷ []
-unfolding line row column lineOf checked fieldsOf four columnOf leadingSpaces digitsOf isDigit more afterZero inTable callOf unlessRefused byFlag
+unfolding line row column lineOf checked fieldsOf fieldsIn four columnOf leadingSpaces digitsOf isDigit more afterZero inTable callOf unlessRefused byFlag
     capacityOf rateRefusal ofBits toBits lt signBit
 capacity = refl
 
--- packets: the largest; too late, also with the flag 2; the flag 2, and the largest flag
+-- packets: the largest; too late, also too large and with the flag 2; a byte too large, and as large as C can say, also with the flag 2; the flag 2, and the
+-- largest flag
 packets :
     map lineOf
-    (line 5 (4 * 10 ^ 18) 1 65535
+    (line 5 (4 * 10 ^ 18) 1 9999999
     ∷ line 5 (4 * 10 ^ 18 + 1) 0 0
-    ∷ line 5 (4 * 10 ^ 18 + 1) 2 0
-    ∷ line 5 0 2 0
+    ∷ line 5 (4 * 10 ^ 18 + 1) 2 10000000
+    ∷ line 5 0 0 10000000
+    ∷ line 5 0 2 99999999
+    ∷ line 5 0 2 9999999
     ∷ line 5 0 (2 ^ 64 - 1) 0
     ∷ []) ≡
-    Taken (Packet (4 * 10 ^ 18) 1 65535) ∷ Refused 3 ∷ Refused 3 ∷ Refused 8 ∷ Refused 8 ∷ []
-unfolding line row column lineOf checked fieldsOf four columnOf leadingSpaces digitsOf isDigit more afterZero inTable callOf unlessRefused
+    Taken (Packet (4 * 10 ^ 18) 1 9999999) ∷ Refused 3 ∷ Refused 3 ∷ Refused 17 ∷ Refused 17 ∷ Refused 8 ∷ Refused 8 ∷ []
+unfolding line row column lineOf checked fieldsOf fieldsIn four columnOf leadingSpaces digitsOf isDigit more afterZero inTable callOf unlessRefused
     packetOf packetRefusal
 packets = refl
+
+-- in 48 columns: 65,536 bytes, which were too large once, and as many as C has room for; too late, and the flag 2
+narrow-packets :
+    map lineOf
+    (narrow-line 5 7 0 65536 ∷ narrow-line 5 7 1 999999 ∷ narrow-line 5 (4 * 10 ^ 18 + 1) 2 999999 ∷ narrow-line 5 0 2 999999 ∷ []) ≡
+    Taken (Packet 7 0 65536) ∷ Taken (Packet 7 1 999999) ∷ Refused 3 ∷ Refused 8 ∷ []
+unfolding narrow-line row column lineOf checked fieldsOf fieldsIn four columnOf leadingSpaces digitsOf isDigit more afterZero inTable callOf unlessRefused
+    packetOf packetRefusal
+narrow-packets = refl
 
 -- rates: -0.0 is refused, a NaN is taken; a report that is refused with 2 empties the queue, and one with 1 does not
 rates :
     map lineOf (line 1 (2 ^ 63) 0 0 ∷ line 2 0xFFF8000000000001 0 0 ∷ line 6 0x7FF0000000000000 0 0 ∷ line 6 (2 ^ 63) 0 0 ∷ line 6 (2 ^ 63) 1 0 ∷ []) ≡
     Refused 2 ∷ Taken (Acknowledged 0xFFF8000000000001) ∷ Taken (Report 0x7FF0000000000000) ∷ ReportRefused 2 ∷ Refused 1 ∷ []
-unfolding line row column lineOf checked fieldsOf four columnOf leadingSpaces digitsOf isDigit more afterZero inTable callOf unlessRefused
+unfolding line row column lineOf checked fieldsOf fieldsIn four columnOf leadingSpaces digitsOf isDigit more afterZero inTable callOf unlessRefused
     reportOf rateRefusal ofBits toBits lt signBit
 rates = refl
 
@@ -177,9 +207,9 @@ texts :
     map lineText (Estimate 4696837146684686336 ∷ Read ∷ []) ≡
     ((32 ∷ 49 ∷ [])
     ++ ((32 ∷ 52 ∷ 54 ∷ 57 ∷ 54 ∷ 56 ∷ 51 ∷ 55 ∷ 49 ∷ 52 ∷ 54 ∷ 54 ∷ 56 ∷ 52 ∷ 54 ∷ 56 ∷ 54 ∷ 51 ∷ 51 ∷ 54 ∷ [])
-    ++ ((replicate 19 32 ++ (48 ∷ [])) ++ (replicate 5 32 ++ (48 ∷ 10 ∷ [])))))
+    ++ ((replicate 19 32 ++ (48 ∷ [])) ++ (replicate 7 32 ++ (48 ∷ 10 ∷ [])))))
     ∷ ((32 ∷ 55 ∷ [])
-    ++ ((replicate 19 32 ++ (48 ∷ [])) ++ ((replicate 19 32 ++ (48 ∷ [])) ++ (replicate 5 32 ++ (48 ∷ 10 ∷ [])))))
+    ++ ((replicate 19 32 ++ (48 ∷ [])) ++ ((replicate 19 32 ++ (48 ∷ [])) ++ (replicate 7 32 ++ (48 ∷ 10 ∷ [])))))
     ∷ []
 unfolding lineText valuesOf row column
 texts = refl
@@ -193,22 +223,25 @@ fields :
 unfolding lineText valuesOf line
 fields = refl
 
--- the reader's number, also with no room: -0.0, a capacity and a report above 10^15, ALR and a packet too late, the latter also with the flag 2, the
--- flag 2; 13 with one byte too few, and nothing to refuse with one more: a NaN, off, none
+-- the reader's number, also with no room: -0.0, a capacity and a report above 10^15, ALR and a packet too late, the latter also too large and with the flag
+-- 2, a packet too large, also with the flag 2, the flag 2; 13 with one byte too few, and nothing to refuse with one more: a NaN, off, none
 refusals :
-    map (λ call. map (writeRefusal call) (0 ∷ 48 ∷ 49 ∷ []))
+    map (λ call. map (writeRefusal call) (0 ∷ 50 ∷ 51 ∷ []))
     (Estimate (2 ^ 63)
     ∷ CapacityIs 0x430C6BF526340001
     ∷ Report 0x430C6BF526340001
     ∷ AlrOn (4 * 10 ^ 18 + 1)
     ∷ Packet (4 * 10 ^ 18 + 1) 0 0
-    ∷ Packet (4 * 10 ^ 18 + 1) 2 0
-    ∷ Packet 0 2 0
+    ∷ Packet (4 * 10 ^ 18 + 1) 2 10000000
+    ∷ Packet 0 0 10000000
+    ∷ Packet 0 2 (2 ^ 32 - 1)
+    ∷ Packet 0 2 9999999
     ∷ Acknowledged 0xFFF8000000000001
     ∷ AlrOff
     ∷ CapacityNone
     ∷ []) ≡
-    replicate 3 2 ∷ replicate 3 2 ∷ replicate 3 2 ∷ replicate 3 3 ∷ replicate 3 3 ∷ replicate 3 3 ∷ replicate 3 8 ∷ (13 ∷ 13 ∷ 0 ∷ [])
+    replicate 3 2 ∷ replicate 3 2 ∷ replicate 3 2 ∷ replicate 3 3 ∷ replicate 3 3 ∷ replicate 3 3 ∷ replicate 3 17 ∷ replicate 3 17 ∷ replicate 3 8
+    ∷ (13 ∷ 13 ∷ 0 ∷ [])
     ∷ (13 ∷ 13 ∷ 0 ∷ []) ∷ (13 ∷ 13 ∷ 0 ∷ []) ∷ []
 unfolding writeRefusal callRefusal valuesOf checked inTable callOf unlessRefused byFlag reportOf alrOf capacityOf packetOf
     rateRefusal timeRefusal packetRefusal ofBits toBits lt signBit
@@ -216,7 +249,7 @@ refusals = refl
 
 -- the whole buffer: bytes behind the newline stay, and all of it where there is no room or the call is turned down
 buffers :
-    written Read (replicate 51 46) ∷ written Read (replicate 48 46) ∷ written (Estimate (2 ^ 63)) (replicate 51 46) ∷ [] ≡
-    (line 7 0 0 0 ++ (10 ∷ 46 ∷ 46 ∷ [])) ∷ replicate 48 46 ∷ replicate 51 46 ∷ []
+    written Read (replicate 53 46) ∷ written Read (replicate 50 46) ∷ written (Estimate (2 ^ 63)) (replicate 53 46) ∷ [] ≡
+    (line 7 0 0 0 ++ (10 ∷ 46 ∷ 46 ∷ [])) ∷ replicate 50 46 ∷ replicate 53 46 ∷ []
 unfolding written writeRefusal callRefusal lineText valuesOf line row column checked inTable callOf unlessRefused rateRefusal ofBits toBits lt signBit
 buffers = refl

@@ -1,10 +1,11 @@
 -- A line of a call list: its columns, the table of kinds, the refusals in their order. Definitions only.
-use Prim.Native.Nat.{ℕ}
-use mathlib.Core.Bool.{Bool, false, cond, _&&_, _||_, not}
+use Prim.Native.Nat.{ℕ, _<_}
+use mathlib.Core.Path.{_≡_}
+use mathlib.Core.Bool.{Bool, true, false, cond, _&&_, _||_, not}
 use mathlib.Core.List.{List, [], _∷_}
-use lib.Dec.{eqb, leb}
+use lib.Dec.{eqb}
 use lib.ListN.{length, getD}
-use Rattle.packets.specs.Summary.{packetRefusal, largestPacket}
+use Rattle.packets.specs.Summary.{packetRefusal}
 use Rattle.loss_controller.specs.Setters.{rateOf, rateRefusal, timeRefusal}
 use Rattle.call_line.specs.declared.Number.{Number}
 use Rattle.call_line.specs.declared.Number.the-variants.{Value, Wrong}
@@ -18,9 +19,13 @@ use Rattle.call_line.specs.Column.{columnOf, total, cut}
 
 -- ---- columns
 
--- "Every line has 48 columns: kind (2), A (20), B (20), C (6)"
-abbrev pub widths : List ℕ
-widths = 2 ∷ 20 ∷ 20 ∷ 6 ∷ []
+-- "Every line has 50 columns: kind (2), A (20), B (20), C (8)" (Q-10)
+abbrev pub wide : List ℕ
+wide = 2 ∷ 20 ∷ 20 ∷ 8 ∷ []
+
+-- "Lines of 48 columns are still read, [..] C up to its six digits" (Q-10)
+abbrev pub narrow : List ℕ
+narrow = 2 ∷ 20 ∷ 20 ∷ 6 ∷ []
 
 -- "The first wrong column ends the reading of that line."
 unfoldable pub four : Number → Number → Number → Number → Fields
@@ -30,11 +35,15 @@ four (Value k) (Value a) Wrong c = Unreadable
 four (Value k) Wrong b c = Unreadable
 four Wrong a b c = Unreadable
 
+-- the fields of a line whose columns are this wide
+unfoldable pub fieldsIn : List ℕ → List ℕ → Fields
+fieldsIn ws s = four (columnOf (cut ws 0 s)) (columnOf (cut ws 1 s)) (columnOf (cut ws 2 s)) (columnOf (cut ws 3 s))
+
+-- "each line told by its own length" (Q-10)
 unfoldable pub fieldsOf : List ℕ → Fields
 fieldsOf s =
-    cond (eqb (length s) (total widths))
-    (four (columnOf (cut widths 0 s)) (columnOf (cut widths 1 s)) (columnOf (cut widths 2 s)) (columnOf (cut widths 3 s)))
-    Unreadable
+    cond (eqb (length s) (total wide)) (fieldsIn wide s)
+    (cond (eqb (length s) (total narrow)) (fieldsIn narrow s) Unreadable)
 
 -- ---- the table of kinds
 
@@ -50,13 +59,14 @@ pub data Rule : Type 0 where
 abbrev pub ruleOf : ℕ → Rule
 ruleOf kind = getD (none ∷ alone ∷ alone ∷ flagged ∷ flagged ∷ packet ∷ alone ∷ bare ∷ []) kind none
 
--- "C above 65,535, or a nonzero field where the table says 0"
+-- "a nonzero field where the table says 0"
 abbrev pub allowed : Rule → ℕ → ℕ → ℕ → Bool
 allowed none a b c = false
 allowed alone a b c = eqb b 0 && eqb c 0
 -- A is "0 if off" and "0 if none". A flag that is neither 0 nor 1 is no matter of the table
 allowed flagged a b c = eqb c 0 && (not (eqb b 0) || eqb a 0)
-allowed packet a b c = leb c largestPacket
+-- "Code 1 no longer limits C by size" (Q-10)
+allowed packet a b c = true
 allowed bare a b c = eqb a 0 && (eqb b 0 && eqb c 0)
 
 unfoldable pub inTable : ℕ → ℕ → ℕ → ℕ → Bool
@@ -88,7 +98,7 @@ alrOf a b = byFlag b (Taken AlrOff) (unlessRefused (timeRefusal a) (AlrOn a))
 unfoldable pub capacityOf : ℕ → ℕ → Line
 capacityOf a b = byFlag b (Taken CapacityNone) (unlessRefused (rateCode a) (CapacityIs a))
 
--- "kind 5 checks 3 before 8", as a report does of each packet
+-- "kind 5 checks 3, 17, 8", as a report does of each packet
 unfoldable pub packetOf : ℕ → ℕ → ℕ → Line
 packetOf a b c =
     unlessRefused (packetRefusal (record { «local_send_time» = a; size = c; lost = b })) (Packet a b c)
@@ -121,7 +131,7 @@ valuesOf (Packet time lost size) = 5 ∷ time ∷ lost ∷ size ∷ []
 valuesOf (Report delay) = 6 ∷ delay ∷ 0 ∷ 0 ∷ []
 valuesOf Read = 7 ∷ 0 ∷ 0 ∷ 0 ∷ []
 
--- "A line checks 1, then the flag's 8, 2 or 3"
+-- "A line checks 1, then the flag's 8, 2 or 3", and kind 5 its packet's
 unfoldable pub checked : Fields → Line
 checked (Fields·Read kind a b c) = cond (inTable kind a b c) (callOf kind a b c) (Refused 1)
 checked Unreadable = Refused 1
@@ -129,3 +139,10 @@ checked Unreadable = Refused 1
 -- what a line says, its newline left out
 unfoldable pub lineOf : List ℕ → Line
 lineOf s = checked (fieldsOf s)
+
+-- ---- for a private function alone: what it asks of widths
+
+-- four columns, none of them without places
+pub record Four (ws : List ℕ) : Type 0 where
+  pub long : length ws ≡ 4
+  pub places : (k : ℕ) → k < 4 → 0 < getD ws k 0

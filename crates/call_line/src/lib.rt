@@ -1,13 +1,11 @@
 // A call list's lines and columns: what a line says, a call written as a line, and a number written in
 // a column.
 ghost use mathlib.Core.Path.{_≡_};
-ghost use mathlib.Core.Bool.{true};
 ghost use Prim.Native.Nat.{_*_, _/_, _%_, _≤_, _<_};
 ghost use lib.ListN.{length};
-ghost use Rattle.packets.specs.Summary.{largestPacket};
-ghost use Rattle.call_line.specs.Column.{isDigit, digitsOf, column};
+ghost use Rattle.call_line.specs.Column.{isDigit, digitsOf, column, total};
 ghost use Rattle.call_line.specs.Digits.{lastDigits};
-ghost use Rattle.call_line.specs.Line.{alone, flagged, allowed, fieldsOf, inTable, rateCode, unlessRefused, alrOf, capacityOf, packetOf};
+ghost use Rattle.call_line.specs.Line.{Four, alone, flagged, allowed, fieldsIn, fieldsOf, inTable, rateCode, unlessRefused, alrOf, capacityOf, packetOf};
 ghost use Rattle.call_line.specs.Line.{reportOf, callOf, valuesOf, checked, lineOf};
 ghost use Rattle.call_line.specs.Write.{callRefusal, writeRefusal, written, ReadBack};
 ghost use Rattle.call_line.specs.declared.Fields.the-variants.{Read};
@@ -17,9 +15,14 @@ use packets::PacketSize;
 // A line's columns: kind, A, B and C.
 const COLUMNS: usize = 4;
 
-const WIDTHS: [usize; COLUMNS] = [2, 20, 20, 6];
+const WIDE: [usize; COLUMNS] = [2, 20, 20, 8];
 
-pub const LINE_WIDTH: usize = WIDTHS[0] + WIDTHS[1] + WIDTHS[2] + WIDTHS[3];
+pub const LINE_WIDTH: usize = WIDE[0] + WIDE[1] + WIDE[2] + WIDE[3];
+
+// Those of a line as it was before frames were bundled, which is still read.
+const NARROW: [usize; COLUMNS] = [2, 20, 20, 6];
+
+pub const NARROW_WIDTH: usize = NARROW[0] + NARROW[1] + NARROW[2] + NARROW[3];
 
 // The digits of u64::MAX
 const MOST_DIGITS: usize = 20;
@@ -108,17 +111,15 @@ pub fn read_number(digits: &[u8]) -> Number
 }
 
 // The first wrong column ends the reading.
-fn read_fields(line: &[u8]) -> Fields
-    ensures { λ r. ⌜ r ≡ fieldsOf (now (line .entry)) ⌝ }
+fn read_columns(line: &[u8], widths: [usize; COLUMNS]) -> Fields
+    requires { ⌜ Four widths × (length (now line) ≡ total widths) ⌝ }
+    ensures { λ r. ⌜ r ≡ fieldsIn widths (now (line .entry)) ⌝ }
 {
-    if line.len() != LINE_WIDTH {
-        return Fields::Unreadable;
-    }
     let mut values = [0u64; COLUMNS];
     let mut from = 0;
     let mut k = 0;
     'columns: while k < COLUMNS {
-        let to = from + WIDTHS[k];
+        let to = from + widths[k];
         let mut first = from;
         // Spaces up to the number; a blank column is wrong.
         while line[first] == b' ' {
@@ -146,6 +147,19 @@ fn read_fields(line: &[u8]) -> Fields
     let b = values[2];
     let c = values[3];
     Fields::Read { kind, a, b, c }
+}
+
+// A line's length tells its columns.
+fn read_fields(line: &[u8]) -> Fields
+    ensures { λ r. ⌜ r ≡ fieldsOf (now (line .entry)) ⌝ }
+{
+    let mut widths = WIDE;
+    if line.len() == NARROW_WIDTH {
+        widths = NARROW;
+    } else if line.len() != LINE_WIDTH {
+        return Fields::Unreadable;
+    }
+    read_columns(line, widths)
 }
 
 // B and C are 0.
@@ -178,7 +192,7 @@ fn in_table(kind: u64, a: u64, b: u64, c: u64) -> bool
     match kind {
         1..=2 | 6 => a_alone(b, c),
         3..=4 => a_with_flag(a, b, c),
-        5 => c <= packets::LARGEST_PACKET,
+        5 => true,
         7 => {
             if a != 0 {
                 return false;
@@ -233,13 +247,15 @@ fn capacity(a: u64, b: u64) -> Line
     unless_refused(rate_refusal(a), call)
 }
 
-// 3 before 8, as the report's.
+// 3, 17 and 8, as the report's.
 fn packet(a: u64, b: u64, c: u64) -> Line
-    requires { ⌜ c ≤ largestPacket ⌝ }
     ensures { λ r. ⌜ r ≡ packetOf a b c ⌝ }
 {
     if a > packets::LATEST_TIME {
         return Line::Refused(3);
+    }
+    if c > packets::LARGEST_PACKET {
+        return Line::Refused(17);
     }
     if b > 1 {
         return Line::Refused(8);
@@ -263,7 +279,6 @@ fn report(a: u64) -> Line
 
 // The call of fields that the table allows.
 fn call_of(kind: u64, a: u64, b: u64, c: u64) -> Line
-    requires { ⌜ inTable kind a b c ≡ true ⌝ }
     ensures { λ r. ⌜ r ≡ callOf kind a b c ⌝ }
 {
     match kind {
@@ -457,7 +472,7 @@ pub fn write_line(call: Call, out: &mut [u8]) -> u8
     let mut from = 0;
     let mut k = 0;
     while k < COLUMNS {
-        let to = from + WIDTHS[k];
+        let to = from + WIDE[k];
         write_number(&mut out[from..to], values[k]);
         from = to;
         k += 1;

@@ -22,10 +22,10 @@ use Rattle.call_list.specs.declared.State.{State}
 use Rattle.call_list.specs.declared.Fed.{Fed}
 use Rattle.call_list.specs.declared.Next.{Next}
 use Rattle.call_list.specs.Answer.{machineOf, afterOf, textOf, rowOf, After}
-use Rattle.call_list.specs.Feed.{Run, width, kept, rowWidth, blank, pushedLine, pushedLen, pushed, told, ended, step, runs, startOf, FedBy, Feeds, Finishes, roomy}
-use Rattle.call_list.specs.Pieces.{nextOf, mayStand, here, At}
+use Rattle.call_list.specs.Feed.{Run, kept, rowWidth, blank, pushedLine, pushedLen, pushed, told, ended, step, runs, startOf, FedBy, Feeds, Finishes, roomy}
+use Rattle.call_list.specs.Pieces.{nextOf, here, At}
 use Rattle.call_list.proofs.KeptLines.{KeptLine, kept-on, Ended, unended, line-ended}
-use Rattle.call_list.proofs.Lines.{long, whole-line}
+use Rattle.call_list.proofs.Lines.{Stands, whole-line}
 use Rattle.call_list.proofs.Laying.{length-row}
 
 -- ---- a run over the next bytes
@@ -53,9 +53,9 @@ module _ (r : Run) where
 
 -- ---- a chunk that is partly answered
 
-pub stands-within : (chunk : List ℕ) (i : ℕ) → mayStand (drop i chunk) ≡ true → i + width < length chunk
-stands-within chunk i e =
-    let h : width < length chunk - i = rw (← length-drop i chunk) (long (drop i chunk) e) in
+pub stands-within : (chunk : List ℕ) (i w : ℕ) → Stands w (drop i chunk) → i + w < length chunk
+stands-within chunk i w e =
+    let h : w < length chunk - i = rw (← length-drop i chunk) (e .long) in
     omega arith
 
 runs-none : (r : Run) → runs r [] ≡ r
@@ -112,11 +112,11 @@ module _
 
     -- the next line stands whole in the chunk
     pub line-stands :
-        (call : Call) → mayStand (drop i chunk) ≡ true → len ≡ 0 → lineOf (take width (drop i chunk)) ≡ Taken call
+        (call : Call) (width : ℕ) → Stands width (drop i chunk) → len ≡ 0 → lineOf (take width (drop i chunk)) ≡ Taken call
         → runs now (drop i chunk) ≡ runs (told now (Taken call)) (drop (i + width + 1) chunk)
-    line-stands call e z t =
+    line-stands call width e z t =
         let k : i + (width + 1) ≡ i + width + 1 = omega arith in
-        whole-line (drop i chunk) e now call z (h .whole) t ∙ rw (drop-drop, k)
+        whole-line width (drop i chunk) e now call z (h .whole) t ∙ rw (drop-drop, k)
 
     -- the next line, read on from what is kept of it
     module _ (n : Next) (e : n ≡ nextOf line len i (drop i chunk)) where

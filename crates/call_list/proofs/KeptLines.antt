@@ -25,7 +25,8 @@ cut-line l = pick (decLe (length l) kept)
     pick : Dec (length l ≤ kept) → lineOf (take kept l) ≡ lineOf l
     pick (yes h) = ap lineOf (take-all kept l h)
     pick (no n) =
-        other-length (take kept l) (λ e. omega (arith, n, length-take kept l)) ∙ sym (other-length l (λ e. omega (arith, n)))
+        other-length (take kept l) (λ e. omega (arith, n, length-take kept l)) (λ e. omega (arith, n, length-take kept l))
+        ∙ sym (other-length l (λ e. omega (arith, n)) (λ e. omega (arith, n)))
 
 -- ---- what is kept of a line
 

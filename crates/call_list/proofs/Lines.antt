@@ -1,21 +1,22 @@
 -- The next line of a chunk. Assumes nothing.
-use Prim.Native.Nat.{ℕ, zero, suc, _+_, _-_, _≤_, _<_}
-use mathlib.Core.Path.{_≡_, sym, ap, _∙_}
-use mathlib.Core.Bool.{true, false}
+use Prim.Native.Nat.{ℕ, zero, suc, _+_, _≤_, _<_}
+use mathlib.Core.Path.{_≡_, refl, sym, ap, _∙_}
+use mathlib.Core.Bool.{Bool, true, false, cond}
 use mathlib.Core.List.{List, [], _∷_, _++_, append-assoc, append-nil}
 use native.Mathlib.Numerals.{add-one}
 use native.Mathlib.Omega.{arith}
 use borrow.Author.Tests.{lt-ltb, le-ltb, eq-eqb, ne-eqb, eqb-true, ltb-true}
-use lib.Dec.{eqb, ltb}
+use lib.Dec.{eqb, ltb, lit≤}
 use lib.ListN.{length, getD, take, drop, set, length-set, length-take, drop-of-length-le, take-append-drop}
 use lib.Seq.{drop-cons, take-suc-set}
 use Rattle.float.proofs.Both.{both}
-use Rattle.call_line.specs.Line.{lineOf}
+use Rattle.call_line.specs.Column.{total}
+use Rattle.call_line.specs.Line.{wide, narrow, lineOf}
 use Rattle.call_line.proofs.Clear.{Clear, taken-clear}
 use Rattle.call_line.specs.declared.Call.{Call}
 use Rattle.call_line.specs.declared.Line.the-variants.{Taken}
-use Rattle.call_list.specs.Feed.{Run, width, kept, pushed, told, step, runs}
-use Rattle.call_list.specs.Pieces.{nextOf, mayStand}
+use Rattle.call_list.specs.Feed.{Run, kept, pushed, told, step, runs}
+use Rattle.call_list.specs.Pieces.{nextOf, newlineBehind, standing}
 
 -- ---- a byte at the place i of the chunk
 
@@ -62,23 +63,36 @@ run-all (b ∷ a) t r c l p =
     run-on r b (a ++ (10 ∷ t)) (ne-eqb b 10 n) ∙ ap (λ (u : Run). runs u (a ++ (10 ∷ t))) k
     ∙ run-all a t q (λ j m e. c (suc j) (omega arith) e) (omega arith) (simp length-set p) ∙ rw x
 
--- a line that may stand there, and is taken
-module _ (s : List ℕ) (e : mayStand s ≡ true) where
-  stands : (width < length s) × (getD s width 0 ≡ 10)
-  unfolding mayStand
-  stands =
-      let h = both (ltb width (length s)) (eqb (getD s width 0) 10) e in (ltb-true _ _ (h .0), eqb-true _ _ (h .1))
+-- a line of w bytes stands there whole
+pub record Stands (w : ℕ) (s : List ℕ) : Type 0 where
+  pub short : w ≤ kept
+  pub long : w < length s
+  pub newline : getD s w 0 ≡ 10
 
-  pub long : width < length s
-  long = stands .0
+pub stands : (s : List ℕ) (w : ℕ) → w ≡ standing s → 0 < w → Stands w s
+unfolding standing newlineBehind
+stands s w e h = rw e (pick (newlineBehind (total narrow) s) (newlineBehind (total wide) s) refl refl (rw e at h))
+  where
+    behind : (w : ℕ) → w ≤ kept → newlineBehind w s ≡ true → Stands w s
+    behind w k e =
+        let h = both (ltb w (length s)) (eqb (getD s w 0) 10) e in
+        record { short = k; long = ltb-true _ _ (h .0); newline = eqb-true _ _ (h .1) }
 
-  pub whole-line :
-      (r : Run) (call : Call) → r .len ≡ 0 → length (r .line) ≡ kept → lineOf (take width s) ≡ Taken call
-      → runs r s ≡ runs (told r (Taken call)) (drop (width + 1) s)
-  whole-line r call z p t =
-      let parts : s ≡ take width s ++ (10 ∷ drop (width + 1) s) =
-      sym (take-append-drop width s) ∙ ap (λ (x : List ℕ). take width s ++ x) (drop-cons s width 0 long ∙ rw (stands .1)) in
-      let w : length (take width s) ≡ width = length-take width s ∙ omega (arith, long) in
-      ap (runs r) parts
-      ∙ run-all (take width s) (drop (width + 1) s) r (taken-clear (take width s) call t) (omega (arith, w, z)) p
-      ∙ rw (z, t)
+    pick :
+        (n w : Bool) → newlineBehind (total narrow) s ≡ n → newlineBehind (total wide) s ≡ w → 0 < cond n (total narrow) (cond w (total wide) 0)
+        → Stands (cond n (total narrow) (cond w (total wide) 0)) s
+    pick true w p q h = behind (total narrow) (lit≤ tt) p
+    pick false true p q h = behind (total wide) (lit≤ tt) q
+    pick false false p q h = absurd (omega arith)
+
+-- and is taken
+pub whole-line :
+    (w : ℕ) (s : List ℕ) → Stands w s → (r : Run) (call : Call) → r .len ≡ 0 → length (r .line) ≡ kept → lineOf (take w s) ≡ Taken call
+    → runs r s ≡ runs (told r (Taken call)) (drop (w + 1) s)
+whole-line w s h r call z p t =
+    let parts : s ≡ take w s ++ (10 ∷ drop (w + 1) s) =
+    sym (take-append-drop w s) ∙ ap (λ (x : List ℕ). take w s ++ x) (drop-cons s w 0 (h .long) ∙ rw (h .newline, add-one)) in
+    let l : length (take w s) ≡ w = length-take w s ∙ omega (arith, h .long) in
+    ap (runs r) parts
+    ∙ run-all (take w s) (drop (w + 1) s) r (taken-clear (take w s) call t) (omega (arith, l, z, h .short)) p
+    ∙ rw (z, t)

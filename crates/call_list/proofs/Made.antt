@@ -5,7 +5,7 @@ use mathlib.Core.List.{List, [], _∷_, _++_, append-assoc, append-nil}
 use native.Mathlib.Omega.{arith}
 use borrow.Author.Tests.{ne-eqb}
 use Rattle.call_line.specs.Column.{row}
-use Rattle.call_line.specs.Line.{widths, valuesOf}
+use Rattle.call_line.specs.Line.{wide, valuesOf}
 use Rattle.call_line.specs.Write.{lineText}
 use Rattle.call_line.proofs.Clear.{Clear, taken-clear}
 use Rattle.call_line.proofs.Written.{call-says}
@@ -25,4 +25,4 @@ unfolding linesFrom lastLine joined lineText
 list-read [] w = refl
 list-read (call ∷ calls) w =
     let s = call-says call (w .0 .0) (w .0 .1) in
-    rw (append-assoc, clear-line (row widths (valuesOf call)) [] (listText calls) (taken-clear _ call s), s, list-read calls (w .1))
+    rw (append-assoc, clear-line (row wide (valuesOf call)) [] (listText calls) (taken-clear _ call s), s, list-read calls (w .1))

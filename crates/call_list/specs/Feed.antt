@@ -7,19 +7,15 @@ use lib.Dec.{eqb, leb, ltb}
 use lib.ListN.{length, take, drop, set, replicate}
 use Rattle.loss_controller.specs.Controller.{initial}
 use Rattle.call_line.specs.Column.{total}
-use Rattle.call_line.specs.Line.{lineOf, widths}
+use Rattle.call_line.specs.Line.{lineOf, wide}
 use Rattle.call_line.specs.declared.Line.{Line}
 use Rattle.call_list.specs.declared.State.{State}
 use Rattle.call_list.specs.declared.Fed.{Fed}
 use Rattle.call_list.specs.Answer.{Machine, answerWidths, queueOf, afterOf, readingOf, rowOf}
 
--- a line in shape is as wide as its columns
-abbrev pub width : ℕ
-width = total widths
-
--- how many bytes of a line are kept: one more than a line in shape has
+-- how many bytes of a line are kept: one more than the longest line in shape has
 abbrev pub kept : ℕ
-kept = width + 1
+kept = total wide + 1
 
 -- the bytes of an answer: its columns, and the newline
 abbrev pub rowWidth : ℕ

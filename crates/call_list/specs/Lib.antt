@@ -4,3 +4,4 @@ pub mod Feed
 pub mod Pieces
 pub mod Whole
 pub mod Made
+mod Examples

@@ -6,6 +6,8 @@ use mathlib.Core.List.{List, [], _∷_}
 use lib.Dec.{eqb, ltb}
 use lib.ListN.{length, take, drop, getD}
 use Rattle.loss_controller.specs.declared.ControllerAnswer.{ControllerAnswer}
+use Rattle.call_line.specs.Column.{total}
+use Rattle.call_line.specs.Line.{wide, narrow}
 use Rattle.call_list.specs.declared.Reading.{Reading}
 use Rattle.call_list.specs.declared.Session.{Session}
 use Rattle.call_list.specs.declared.LineAnswer.{LineAnswer}
@@ -13,7 +15,7 @@ use Rattle.call_list.specs.declared.Quiet.{Quiet}
 use Rattle.call_list.specs.declared.Next.{Next}
 use Rattle.call_list.specs.Answer.{places, machineOf, readingOf}
 use Rattle.call_list.specs.Split.{Queued}
-use Rattle.call_list.specs.Feed.{Run, width, kept, rowWidth, pushedLine, pushedLen, runs}
+use Rattle.call_list.specs.Feed.{Run, kept, rowWidth, pushedLine, pushedLen, runs}
 
 -- what a line leaves without the controller
 pub record QuietBy (r : Quiet) (ts ss fs : List ℕ) (calls : Bool) (q : Queued) : Type 0 where
@@ -46,9 +48,13 @@ nextOf line len i (b ∷ s) =
 
 -- ---- lines that stand whole in them
 
--- whether a newline stands where a line in shape has its own
-unfoldable pub mayStand : List ℕ → Bool
-mayStand s = ltb width (length s) && eqb (getD s width 0) 10
+-- whether a newline stands behind w bytes
+unfoldable pub newlineBehind : ℕ → List ℕ → Bool
+newlineBehind w s = ltb w (length s) && eqb (getD s w 0) 10
+
+-- how wide a line may be that starts there: narrow where a newline stands behind so many bytes, else wide, and 0 where neither can be
+unfoldable pub standing : List ℕ → ℕ
+standing s = cond (newlineBehind (total narrow) s) (total narrow) (cond (newlineBehind (total wide) s) (total wide) 0)
 
 unfoldable pub sameReading : Reading → Reading → Bool
 sameReading a b =

@@ -25,7 +25,7 @@ use packets::PacketSize;
 // The queue's places
 pub const PLACES: usize = packets::MOST_PACKETS_IN_REPORT;
 
-// A line's bytes that are kept: one more than a line in shape has.
+// A line's bytes that are kept: one more than the longest line in shape has.
 pub const KEPT: usize = call_line::LINE_WIDTH + 1;
 
 // An answer's columns: refusal, state, published, rate and inherent loss
@@ -483,15 +483,29 @@ struct Progress {
     written: usize,
 }
 
-// Whether a newline stands where a line in shape that starts at `from` has its own.
-fn may_stand(chunk: &[u8], from: usize) -> bool
+fn newline_behind(width: usize, chunk: &[u8], from: usize) -> bool
     requires { ⌜ from ≤ length (now chunk) ⌝ }
-    ensures { λ r. ⌜ r ≡ Pieces.mayStand (drop from (now (chunk .entry))) ⌝ }
+    ensures { λ r. ⌜ r ≡ Pieces.newlineBehind width (drop from (now (chunk .entry))) ⌝ }
 {
-    if chunk.len() - from <= call_line::LINE_WIDTH {
+    if chunk.len() - from <= width {
         return false;
     }
-    chunk[from + call_line::LINE_WIDTH] == b'\n'
+    chunk[from + width] == b'\n'
+}
+
+// How wide the line that starts at `from` may be, by the newline behind it; 0 if it does not stand there
+// whole or has neither width.
+fn standing(chunk: &[u8], from: usize) -> usize
+    requires { ⌜ from ≤ length (now chunk) ⌝ }
+    ensures { λ r. ⌜ r ≡ Pieces.standing (drop from (now (chunk .entry))) ⌝ }
+{
+    if newline_behind(call_line::NARROW_WIDTH, chunk, from) {
+        return call_line::NARROW_WIDTH;
+    }
+    if newline_behind(call_line::LINE_WIDTH, chunk, from) {
+        return call_line::LINE_WIDTH;
+    }
+    0
 }
 
 fn same(a: Reading, b: Reading) -> bool
@@ -567,8 +581,9 @@ fn whole_lines(
     let mut row = text(reading);
     let mut w = written;
     let mut i = from;
-    while may_stand(chunk, i) {
-        let end = i + call_line::LINE_WIDTH;
+    let mut width = standing(chunk, i);
+    while width > 0 {
+        let end = i + width;
         let Line::Taken(call) = call_line::read_line(&chunk[i..end]) else {
             break;
         };
@@ -586,6 +601,7 @@ fn whole_lines(
         put_row(refusal, &row, out, w);
         w += ROW;
         i = end + 1;
+        width = standing(chunk, i);
     }
     progress_of(controller, reading, queued, i, w)
 }

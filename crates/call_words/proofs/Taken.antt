@@ -183,16 +183,16 @@ wide Read h = (lit< tt, (lit< tt, (lit< tt, (lit< tt, tt))))
 
 taken : (call : Call) → Fits call → callRefusal call ≡ 0
 unfolding valuesOf timeRefusal packetRefusal
-taken (Estimate rate) h = call-numbers (Estimate rate) (omega arith) ∙ h .0
-taken (Acknowledged rate) h = call-numbers (Acknowledged rate) (omega arith) ∙ h .0
-taken (AlrOn start) h = call-numbers (AlrOn start) (omega arith) ∙ simp (le-leb start latestTime h)
-taken AlrOff h = call-numbers AlrOff (omega arith)
-taken (CapacityIs rate) h = call-numbers (CapacityIs rate) (omega arith) ∙ h .0
-taken CapacityNone h = call-numbers CapacityNone (omega arith)
+taken (Estimate rate) h = call-numbers (Estimate rate) ∙ h .0
+taken (Acknowledged rate) h = call-numbers (Acknowledged rate) ∙ h .0
+taken (AlrOn start) h = call-numbers (AlrOn start) ∙ simp (le-leb start latestTime h)
+taken AlrOff h = call-numbers AlrOff
+taken (CapacityIs rate) h = call-numbers (CapacityIs rate) ∙ h .0
+taken CapacityNone h = call-numbers CapacityNone
 taken (Packet time lost size) h =
-    call-numbers (Packet time lost size) (h .1 .1) ∙ simp (le-leb time latestTime (h .0), le-leb lost 1 (h .1 .0))
-taken (Report rate) h = call-numbers (Report rate) (omega arith) ∙ h .0
-taken Read h = call-numbers Read (omega arith)
+    call-numbers (Packet time lost size) ∙ simp (le-leb time latestTime (h .0), le-leb size largestPacket (h .1 .1), le-leb lost 1 (h .1 .0))
+taken (Report rate) h = call-numbers (Report rate) ∙ h .0
+taken Read h = call-numbers Read
 
 pub words-taken : WordsTaken
 unfolding wordsOf

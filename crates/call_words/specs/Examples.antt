@@ -141,15 +141,15 @@ packets :
     ("packet 0.120 1200 lost"
     ∷ "packet 0.120 1200 arrived"
     ∷ "packet 0 0 lost"
-    ∷ "packet 0 65535 arrived"
-    ∷ "packet 0 65536 arrived"
+    ∷ "packet 0 9999999 arrived"
+    ∷ "packet 0 10000000 arrived"
     ∷ "packet 0 01 arrived"
     ∷ "packet 0 1200 Lost"
     ∷ "packet 0 -1 gone"
     ∷ "packet x -1 gone"
     ∷ "packet 4000000000.5 -1 gone"
     ∷ []) ≡
-    Called (Packet 120000000 1 1200) ∷ Called (Packet 120000000 0 1200) ∷ Called (Packet 0 1 0) ∷ Called (Packet 0 0 65535) ∷ Wrong Size ∷ Wrong Size
+    Called (Packet 120000000 1 1200) ∷ Called (Packet 120000000 0 1200) ∷ Called (Packet 0 1 0) ∷ Called (Packet 0 0 9999999) ∷ Wrong Size ∷ Wrong Size
     ∷ Wrong Outcome ∷ Wrong Size ∷ Wrong Time ∷ Wrong Time ∷ []
 unfolding wordsOf said isComment wordsFrom isBlank upTo names nameIn same callOf packetOf packetBy withOutcome sizeOf timeOf nanosOf isPoint onFrom plus
     times atMost fractionOf placesOf digitsOf isDigit more afterZero

@@ -6,7 +6,7 @@ use mathlib.Core.List.{List}
 use lib.Ieee.{binary64, ofBits}
 use lib.Ieee.Exact.{HasValue}
 use Rattle.call_line.specs.Column.{digitsOf, row}
-use Rattle.call_line.specs.Line.{widths, valuesOf, lineOf}
+use Rattle.call_line.specs.Line.{wide, valuesOf, lineOf}
 use Rattle.call_line.specs.Write.{callRefusal, OfType}
 use Rattle.call_line.specs.declared.Number.the-variants.{Value}
 use Rattle.call_line.specs.declared.Call.{Call}
@@ -25,4 +25,4 @@ WordsTaken = (line : List ℕ) (call : Call) → wordsOf line ≡ Called call �
 
 -- so the line that is written for words is read as the call that they say
 abbrev pub WordsRead : Type 0
-WordsRead = (line : List ℕ) (call : Call) → wordsOf line ≡ Called call → lineOf (row widths (valuesOf call)) ≡ Taken call
+WordsRead = (line : List ℕ) (call : Call) → wordsOf line ≡ Called call → lineOf (row wide (valuesOf call)) ≡ Taken call

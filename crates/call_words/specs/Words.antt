@@ -89,7 +89,7 @@ unfoldable pub rateOf : List ℕ → Number
 rateOf word =
     cond (same word (ascii "inf")) (Value (toBits binary64 (inf false))) (bitsOf (atMost (10 ^ 15) (digitsOf word)))
 
--- bytes: 0 to 65535
+-- bytes: 0 to 9999999
 unfoldable pub sizeOf : List ℕ → Number
 sizeOf word = atMost largestPacket (digitsOf word)
 

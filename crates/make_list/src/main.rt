@@ -165,7 +165,7 @@ fn complain_of_words(number: u64, why: Why) {
         ),
         Why::Size => complain(
             number,
-            b"a wrong size: whole bytes, at most 65535, without leading zeros",
+            b"a wrong size: whole bytes, at most 9999999, without leading zeros",
         ),
         Why::Outcome => complain(
             number,

@@ -7,8 +7,8 @@ use libc::STDIN_FILENO;
 use libc::STDOUT_FILENO;
 use packets::PacketSize;
 
-// The bytes of a line: five fields of 1, 16, 2, 4 and 2 digits, a space or the newline behind each
-const LINE: usize = 30;
+// The bytes of a line: five fields of 1, 16, 2, 8 and 2 digits, a space or the newline behind each
+const LINE: usize = 34;
 
 const LONGEST: usize = 64;
 
@@ -32,14 +32,14 @@ fn replay_line() -> bool {
     if n < LINE {
         return false;
     }
-    let room = hexadecimal::number(&line[27..29]);
+    let room = hexadecimal::number(&line[31..33]);
     if room > LONGEST as u64 {
         return false;
     }
     let variant = hexadecimal::number(&line[0..1]);
     let number = hexadecimal::number(&line[2..18]);
     let lost = hexadecimal::number(&line[19..21]) % 256;
-    let size = hexadecimal::number(&line[22..26]) % 65_536;
+    let size = hexadecimal::number(&line[22..30]) % 4_294_967_296;
     let call = call_of(variant, number, lost as u8, size as PacketSize);
     let mut buffer = [b'.'; LONGEST];
     let room = room as usize;

@@ -3,9 +3,8 @@ use Prim.Native.Nat.{ℕ, _+_, _-_, _≤_}
 use mathlib.Core.Path.{_≡_, ap, _∙_}
 use mathlib.Core.List.{List}
 use native.Mathlib.Omega.{arith}
-use borrow.Author.Tests.{le-ltb}
 use borrow.Rule.Slice.PartMut.{midOf, putMid, mid-len}
-use lib.ListN.{length, set, replicate, length-append}
+use lib.ListN.{length, set, length-append}
 use Rattle.buffer.specs.Laid.{laid}
 use Rattle.buffer.proofs.Laying.{mid-laid, byte-laid}
 use Rattle.call_line.specs.Column.{column}
@@ -15,7 +14,7 @@ use Rattle.call_line.specs.declared.Call.{Call}
 use Rattle.call_line.specs.declared.Line.{Line}
 use Rattle.call_line.specs.declared.Line.the-variants.{Taken, Refused, ReportRefused}
 use Rattle.call_line.proofs.RoundTrip.{length-column}
-use Rattle.call_line.proofs.Written.{text-long, taken-wide, read-write, text-fills, column-laid}
+use Rattle.call_line.proofs.Written.{text-long, taken-allowed, room-enough, text-fills, column-laid}
 use Rattle.rewrite.specs.Rewrite.{refusalText, answerText, Puts}
 
 -- ---- how wide it is
@@ -32,9 +31,7 @@ no-wider (ReportRefused refusal) = omega (arith, refusal-wide refusal)
 -- ---- a call that was read is not turned down where its text has room
 
 pub not-turned-down : (s : List ℕ) (call : Call) → lineOf s ≡ Taken call → writeRefusal call lineBytes ≡ 0
-not-turned-down s call e =
-    let out : List ℕ = replicate lineBytes 0 in
-    read-write s call e out .refusal ∙ rw (le-ltb (length out) (length s + 1) (omega (arith, taken-wide s call e)))
+not-turned-down s call e = room-enough call (taken-allowed s call e)
 
 -- ---- it is laid into the buffer
 

@@ -4,14 +4,16 @@ use mathlib.Core.Path.{_≡_}
 use mathlib.Core.List.{List, [], _∷_, _++_, map}
 use lib.ListN.{length, take}
 use Rattle.buffer.specs.Laid.{laid}
-use Rattle.call_line.specs.Line.{lineOf}
+use Rattle.call_line.specs.Column.{total}
+use Rattle.call_line.specs.Line.{wide, lineOf}
 use Rattle.call_line.specs.Write.{asciiNewline, lineText}
 use Rattle.call_line.specs.declared.Call.{Call}
 use Rattle.call_line.specs.declared.Line.{Line}
 use Rattle.call_line.specs.declared.Line.the-variants.{Taken, Refused, ReportRefused}
 use Rattle.call_list.specs.Answer.{inColumn}
 use Rattle.call_list.specs.Feed.{kept}
-use Rattle.call_list.specs.Whole.{joined, linesFrom}
+use Rattle.call_list.specs.Whole.{joined, linesFrom, linesOf}
+use Rattle.call_list.specs.Made.{listText}
 use Rattle.rewrite.specs.declared.Fed.{Fed}
 
 -- ---- the text of a line
@@ -20,7 +22,7 @@ use Rattle.rewrite.specs.declared.Fed.{Fed}
 unfoldable pub refusalText : ℕ → List ℕ
 refusalText refusal = inColumn 0 refusal ++ (asciiNewline ∷ [])
 
--- "writing the call read from an accepted line yields that line with its newline"
+-- what an accepted line says, written as the writer has it
 abbrev pub answerText : Line → List ℕ
 answerText (Taken call) = lineText call
 answerText (Refused refusal) = refusalText refusal
@@ -46,18 +48,35 @@ rewritten input = rewrittenFrom [] input
 abbrev pub closed : List ℕ → List ℕ
 closed l = l ++ (asciiNewline ∷ [])
 
--- the reader takes every line
-pub data AllTaken : List (List ℕ) → Type 0 where
-  none : AllTaken []
-  one : (l : List ℕ) (ls : List (List ℕ)) (call : Call) → lineOf l ≡ Taken call → AllTaken ls → AllTaken (l ∷ ls)
+-- the reader takes every line, and they say these calls
+pub data Say : List (List ℕ) → List Call → Type 0 where
+  none : Say [] []
+  one : (l : List ℕ) (ls : List (List ℕ)) (call : Call) (calls : List Call) → lineOf l ≡ Taken call → Say ls calls → Say (l ∷ ls) (call ∷ calls)
 
--- "accepted lines come back byte for byte, an open last line with its newline"
+-- whatever the widths of its lines, the list of their calls is written, an open last line with its newline
+abbrev pub ListWritten : Type 0
+ListWritten = (ls : List (List ℕ)) (calls : List Call) → Say ls calls → rewritten (joined (map closed ls)) ≡ listText calls
+
+abbrev pub OpenWritten : Type 0
+OpenWritten =
+    (ls : List (List ℕ)) (calls : List Call) (l : List ℕ) (call : Call) → Say ls calls → lineOf l ≡ Taken call
+    → rewritten (joined (map closed ls) ++ l) ≡ listText calls ++ lineText call
+
+-- it says the same calls
+abbrev pub SameCalls : Type 0
+SameCalls = (ls : List (List ℕ)) (calls : List Call) → Say ls calls → map lineOf (linesOf (rewritten (joined (map closed ls)))) ≡ map Taken calls
+
+-- "Writing a line back reproduces it only for the wide form" (Q-10): a list of wide lines comes back byte for byte
+abbrev pub AllWide : List (List ℕ) → Type 0
+AllWide [] = Unit {0}
+AllWide (l ∷ ls) = (length l ≡ total wide) × AllWide ls
+
 abbrev pub ListComesBack : Type 0
-ListComesBack = (ls : List (List ℕ)) → AllTaken ls → rewritten (joined (map closed ls)) ≡ joined (map closed ls)
+ListComesBack = (ls : List (List ℕ)) (calls : List Call) → Say ls calls → AllWide ls → rewritten (joined (map closed ls)) ≡ joined (map closed ls)
 
 abbrev pub OpenComesBack : Type 0
 OpenComesBack =
-    (ls : List (List ℕ)) (l : List ℕ) (call : Call) → AllTaken ls → lineOf l ≡ Taken call
+    (ls : List (List ℕ)) (calls : List Call) (l : List ℕ) (call : Call) → Say ls calls → lineOf l ≡ Taken call → AllWide ls → length l ≡ total wide
     → rewritten (joined (map closed ls) ++ l) ≡ joined (map closed ls) ++ closed l
 
 -- ---- what the functions leave

@@ -2,7 +2,7 @@
 use mathlib.Core.Path.{sym}
 use borrow.Author.Needs.{needs}
 use Rattle.call_line.specs.Line.{callOf}
-use Rattle.call_line.proofs.Table.{packet-fits, call-rest}
+use Rattle.call_line.proofs.Table.{call-rest}
 use Rattle.call_line.proofs.call_of.Statement.{statement}
 use Rattle.call_line.proofs.call_of.Tie as tie
 
@@ -25,7 +25,7 @@ capacity-requires : tie.Need-capacity-requires
 capacity-requires c κs = search needs
 
 packet-requires : tie.Need-packet-requires
-packet-requires c κs = packet-fits _ _ _ _ (c .match .keys5) (c .before .pre)
+packet-requires c κs = search needs
 
 report-requires : tie.Need-report-requires
 report-requires c κs = search needs

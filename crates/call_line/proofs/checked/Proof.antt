@@ -17,7 +17,7 @@ returns c =
     simp t
 
 call-of-requires : tie.Need-call-of-requires
-call-of-requires c κs = sym (c .before .in-table .ensures) ∙ not-false _ (c .if1 .left)
+call-of-requires c κs = search needs
 
 returns-2 : tie.Need-returns-2
 unfolding checked

@@ -6,17 +6,17 @@ use borrow.Author.Needs.{needs}
 use lib.ListN.{length, getD, drop, set, length-set}
 use mathlib.Core.List.{List, [], _∷_, _++_}
 use Rattle.call_line.specs.Column.{start, total, row}
-use Rattle.call_line.specs.Line.{widths}
-use Rattle.call_line.proofs.Columns.{start-next, within}
+use Rattle.call_line.specs.Line.{wide}
+use Rattle.call_line.proofs.Columns.{start-next, starts-within, within}
 use Rattle.call_line.specs.Write.{asciiNewline, lineText, lineBytes}
 use Rattle.call_line.proofs.Calls.{four-long}
-use Rattle.call_line.proofs.Written.{FirstColumns, starts-within, no-column, columns-kept, column-more, newline-laid, of-type, turned-down, no-room, accepted}
+use Rattle.call_line.proofs.Written.{FirstColumns, no-column, columns-kept, column-more, newline-laid, of-type, turned-down, no-room, accepted}
 use Rattle.call_line.proofs.write_line.Statement.{statement}
 use Rattle.call_line.proofs.write_line.Tie as tie
 
 abbrev Inv-loop : tie.InvT-loop
 Inv-loop out₀ refusal values from₀ k₀ out from k =
-    (k ≤ 4) × (from ≡ start widths k) × (length out ≡ length out₀) × FirstColumns out₀ values out k
+    (k ≤ 4) × (from ≡ start wide k) × (length out ≡ length out₀) × FirstColumns out₀ values out k
 
 abbrev μ-loop : tie.MeasureT-loop
 μ-loop out₀ refusal values from₀ k₀ out from k = 4 - k
@@ -24,15 +24,15 @@ abbrev μ-loop : tie.MeasureT-loop
 -- a column ends within the line
 ends :
     (c : tie.In-loop Inv-loop μ-loop)
-    → c .before .loop .from + getD widths (c .before .loop .k) 0 < length (c .before .loop .out)
-ends c = omega (arith, within (c .before .loop .k) (c .loop-test .taken))
+    → c .before .loop .from + getD wide (c .before .loop .k) 0 < length (c .before .loop .out)
+ends c = omega (arith, within wide (c .before .loop .k) (c .loop-test .taken))
 
 -- the buffer and the values, where columns are written
 module _ (l : tie.At-loop Inv-loop μ-loop) where
   abbrev out₀ : List ℕ
   out₀ = l .before .before .before .before .before .before .args .out .now
 
-  four : length widths ≡ length (l .before .values .result)
+  four : length wide ≡ length (l .before .values .result)
   four = sym (ap length (l .before .values .ensures) ∙ four-long _)
 
   room : lineBytes ≤ length out₀
@@ -94,7 +94,7 @@ loop-again c =
     let m = column-more (out₀ l) (l .before .values .result) (l .loop .out) (four l) (room l) (l .loop .k) (l .loop .from) _ h (i .1) (i .2)
     (c .before .before .write-number .ensures) (i .3) in (
       omega arith,
-      ap (λ (x : ℕ). x + getD widths (l .loop .k) 0) (i .1) ∙ sym (start-next widths (l .loop .k) h),
+      ap (λ (x : ℕ). x + getD wide (l .loop .k) 0) (i .1) ∙ sym (start-next wide (l .loop .k) h),
       columns-kept (out₀ l) (l .before .values .result) _ (four l) (room l) (l .loop .k + 1) (omega arith) m,
       m,
     )
@@ -102,7 +102,7 @@ loop-again c =
 slice-write-out : tie.Need-slice-write-out Inv-loop μ-loop
 slice-write-out c =
     let l = c .before in
-    omega (arith, starts-within (l .loop .k) (l .loop .inv .0), room l)
+    omega (arith, starts-within wide (l .loop .k) (l .loop .inv .0), room l)
 
 same-length : tie.Need-same-length Inv-loop μ-loop
 same-length c = simp length-set (c .before .loop .inv .2)
@@ -113,13 +113,13 @@ returns-3 c =
     let l = c .before in
     let v = l .before .values in
     let k : l .loop .k ≡ 4 = omega arith in
-    let f : l .loop .from ≡ total widths = l .loop .inv .1 ∙ ap (start widths) k in
+    let f : l .loop .from ≡ total wide = l .loop .inv .1 ∙ ap (start wide) k in
     let all = subst (FirstColumns (out₀ l) (v .result) (l .loop .out)) k (l .loop .inv .3) in
     accepted _ (out₀ l) _ (of-type _ (v .result) _ _ (v .ensures) (v .ok))
     (sym (l .before .before .before .if1 .left) ∙ l .before .before .before .before .call-refusal .ensures) (room l)
     (ap (λ (n : ℕ). set (l .loop .out) n asciiNewline) f
     ∙ newline-laid (out₀ l) (v .result) (l .loop .out) (four l) (room l) all
-    ∙ ap (λ (ns : List ℕ). (row widths ns ++ (asciiNewline ∷ [])) ++ drop lineBytes (out₀ l)) (v .ensures))
+    ∙ ap (λ (ns : List ℕ). (row wide ns ++ (asciiNewline ∷ [])) ++ drop lineBytes (out₀ l)) (v .ensures))
 
 pub write-line-spec : {M : Type 1} → statement M
 write-line-spec =

@@ -9,7 +9,8 @@ use lib.Seq.{length-take-le}
 use Rattle.call_list.specs.declared.Session.{Session}
 use Rattle.call_list.specs.declared.State.{State}
 use Rattle.call_list.specs.Answer.{rowOf}
-use Rattle.call_list.specs.Feed.{Run, width, rowWidth, blank, runs, startOf}
+use Rattle.call_list.specs.Feed.{Run, rowWidth, blank, runs, startOf}
+use Rattle.call_list.specs.Feed as feeding
 use Rattle.call_list.specs.Pieces.{At}
 use Rattle.call_list.proofs.KeptLines.{KeptLine}
 use Rattle.call_list.proofs.Feeding.{kept-line, row-fits, one-line, no-line, line-more, line-within, line-run, go-on, all-read}
@@ -52,7 +53,7 @@ loop-holds : tie.Need-loop-holds Inv-loop μ-loop
 loop-holds c =
     let a = c .before .before .before .before .before in
     let y = a .good in
-    let e : length (a .args .state .line) ≡ width + 1 = search needs in
+    let e : length (a .args .state .line) ≡ feeding.kept = search needs in
     record {
       read = omega arith;
       short = a .pre .0;

@@ -10,8 +10,9 @@ use Rattle.call_line.specs.declared.Call.{Call}
 use Rattle.call_line.specs.declared.Line.the-variants.{Taken}
 use Rattle.call_list.specs.declared.Session.{Session}
 use Rattle.call_list.specs.Answer.{textWidth, textOf}
-use Rattle.call_list.specs.Feed.{width, rowWidth, blank, runs}
-use Rattle.call_list.specs.Pieces.{here, At}
+use Rattle.call_list.specs.Feed.{rowWidth, blank, runs}
+use Rattle.call_list.specs.Pieces.{standing, here, At}
+use Rattle.call_list.proofs.Lines.{Stands, stands}
 use Rattle.call_list.proofs.Laying.{length-text}
 use Rattle.call_list.proofs.Feeding.{stands-within, row-fits, line-stands, one-line}
 use Rattle.call_list.proofs.Turning.{Leaves, call-loudly, call-quietly}
@@ -19,28 +20,29 @@ use Rattle.call_list.proofs.whole_lines.Statement.{statement}
 use Rattle.call_list.proofs.whole_lines.Tie as tie
 
 abbrev Inv-loop : tie.InvT-loop
-Inv-loop times₀ sizes₀ flags₀ chunk from out₀ written controller₀ reading₀ queued₀ row₀ w₀ i₀ times sizes flags out controller reading queued row w i =
+Inv-loop times₀ sizes₀ flags₀ chunk from out₀ written controller₀ reading₀ queued₀ row₀ w₀ i₀ width₀ times sizes flags out controller reading queued row w i width =
     (from ≤ i) × (written ≤ w) × (row ≡ textOf reading)
     × At chunk out₀
     (runs (here blank 0 (record { controller = controller₀; reading = reading₀; queued = queued₀ }) times₀ sizes₀ flags₀ (take written out₀)) (drop from chunk))
     times sizes flags out blank 0 (record { controller = controller; reading = reading; queued = queued }) w i
+    × (width ≡ standing (drop i chunk))
 
 abbrev μ-loop : tie.MeasureT-loop
-μ-loop times₀ sizes₀ flags₀ chunk from out₀ written controller₀ reading₀ queued₀ row₀ w₀ i₀ times sizes flags out controller reading queued row w i =
+μ-loop times₀ sizes₀ flags₀ chunk from out₀ written controller₀ reading₀ queued₀ row₀ w₀ i₀ width₀ times sizes flags out controller reading queued row w i width =
     length chunk - i
 
 -- ---- the stages of a turn
 
 abbrev Turn : Type 0
-Turn = tie.Joined2 Inv-loop μ-loop
+Turn = tie.Joined1 Inv-loop μ-loop
 
 abbrev begin : tie.At-loop Inv-loop μ-loop → tie.Start Inv-loop μ-loop
-begin h = h .before .before .before .before .before .before
+begin h = h .before .before .before .before .before .before .before
 
-abbrev head : tie.Then1 Inv-loop μ-loop → tie.At-loop Inv-loop μ-loop
-head c = c .before .before
+abbrev head : tie.In-loop Inv-loop μ-loop → tie.At-loop Inv-loop μ-loop
+head c = c .before
 
-abbrev stood : Turn → tie.Then1 Inv-loop μ-loop
+abbrev stood : Turn → tie.In-loop Inv-loop μ-loop
 stood j = j .before .before .before .before .before .before .before .before .before .before
 
 abbrev call : Turn → Call
@@ -51,19 +53,23 @@ text-requires c κs = search needs
 
 loop-holds : tie.Need-loop-holds Inv-loop μ-loop
 loop-holds c =
-    let p = c .before .before .before .before .before .pre in (
+    let p = c .before .before .before .before .before .before .pre in (
       omega arith,
       omega arith,
-      c .text .ensures,
+      c .before .text .ensures,
       record { read = p .0; short = omega arith; whole = refl; out-kept = refl; room = p .1; rest = refl; reading = p .3; same = refl },
+      c .standing .ensures,
     )
 
-may-stand-requires : tie.Need-may-stand-requires Inv-loop μ-loop
-may-stand-requires c κs = c .loop .inv .3 .read
+standing-requires : tie.Need-standing-requires Inv-loop μ-loop
+standing-requires c κs = search needs
 
--- a line that may stand there has its newline within the chunk
-within : (c : tie.Then1 Inv-loop μ-loop) → head c .loop .i + width < length (begin (head c) .args .chunk .now)
-within c = stands-within _ _ (sym (c .before .may-stand .ensures) ∙ c .if1 .taken)
+-- a line stands there, and its newline within the chunk
+whole : (c : tie.In-loop Inv-loop μ-loop) → Stands (head c .loop .width) (drop (head c .loop .i) (begin (head c) .args .chunk .now))
+whole c = stands _ _ (head c .loop .inv .4) (c .loop-test .taken)
+
+within : (c : tie.In-loop Inv-loop μ-loop) → head c .loop .i + head c .loop .width < length (begin (head c) .args .chunk .now)
+within c = stands-within _ _ _ (whole c)
 
 add-end : tie.Need-add-end Inv-loop μ-loop
 add-end c = omega (arith, within c)
@@ -103,12 +109,12 @@ renew-requires c κs =
 fits : (j : Turn) → head (stood j) .loop .w + rowWidth ≤ length (head (stood j) .loop .out)
 fits j = row-fits _ _ _ _ _ _ _ _ _ _ _ _ (head (stood j) .loop .inv .3) (omega (arith, within (stood j))) (begin (head (stood j)) .pre .2)
 
-text-told : (j : Turn) → j .if2 .row ≡ textOf (j .if2 .reading)
+text-told : (j : Turn) → j .if1 .row ≡ textOf (j .if1 .reading)
 text-told j =
     let t = head (stood j) .loop .inv .2 in
-    ⊎-elim (λ a. a .11 ∙ a .8 .ensures ∙ sym (ap textOf (a .10))) (λ b. b .3 ∙ t ∙ sym (ap textOf (b .2))) (j .if2 .came)
+    ⊎-elim (λ a. a .11 ∙ a .8 .ensures ∙ sym (ap textOf (a .10))) (λ b. b .3 ∙ t ∙ sym (ap textOf (b .2))) (j .if1 .came)
 
-text-long : (j : Turn) → length (j .if2 .row) ≡ textWidth
+text-long : (j : Turn) → length (j .if1 .row) ≡ textWidth
 text-long j = ap length (text-told j) ∙ length-text _
 
 -- the session at its start
@@ -123,12 +129,12 @@ leaves :
     let k = j .before .quiet-call in
     Leaves (session j) (l .times) (l .sizes) (l .flags)
     (call j) (k .result) (k .last .1 .0) (k .last .1 .1 .0) (k .last .1 .1 .1 .0) (k .ensures)
-    (j .if2 .controller) (j .if2 .reading) (j .if2 .refusal))
+    (j .if1 .controller) (j .if1 .reading) (j .if1 .refusal))
 leaves j =
     let h = j .before .quiet-call .ensures in
     ⊎-elim (λ a. call-loudly (session j) _ _ _ (call j) _ _ _ _ h _ _ _ (a .0 .taken) (a .4 .result) (a .4 .ensures) (a .9) (a .10 ∙ a .6 .ensures) (a .12))
     (λ b. call-quietly (session j) _ _ _ (call j) _ _ _ _ h _ _ _ (b .0 .left) (head (stood j) .loop .inv .3 .reading) (b .1) (b .2) (b .4))
-    (j .if2 .came)
+    (j .if1 .came)
 
 slice-aggregate-put-row : tie.Need-slice-aggregate-put-row Inv-loop μ-loop
 slice-aggregate-put-row c = sym (text-long (c .before))
@@ -152,28 +158,31 @@ add-i c =
     let y = begin (head (stood (turn c))) .good in
     omega (arith, within (stood (turn c)))
 
+standing-requires-2 : tie.Need-standing-requires-2 Inv-loop μ-loop
+standing-requires-2 c κs = omega (arith, within (stood (turn c)))
+
 loop-less : tie.Need-loop-less Inv-loop μ-loop
-loop-less c = omega (arith, within (stood (turn c)))
+loop-less c = omega (arith, within (stood (turn (c .before))))
 
 loop-again : tie.Need-loop-again Inv-loop μ-loop
 loop-again c =
-    let j = turn c in
+    let j = turn (c .before) in
     let l = head (stood j) .loop in
     let chunk = begin (head (stood j)) .args .chunk .now in
     let n = within (stood j) in
     let m : l .i < length chunk = omega (arith, n) in
     let big = begin (head (stood j)) .pre .2 in
-    let k : l .i + width - l .i ≡ width = omega arith in
-    let e = sym (stood j .before .may-stand .ensures) ∙ stood j .if1 .taken in
+    let k : l .i + l .width - l .i ≡ l .width = omega arith in
     let t = ap (λ (x : ℕ). lineOf (take x (drop (l .i) chunk))) (sym k)
     ∙ sym (j .before .before .before .before .before .before .before .before .read-line .ensures)
     ∙ j .before .before .before .before .before .before .call .given .1 in (
       omega (arith, n),
       omega arith,
       text-told j,
-      one-line _ _ _ _ _ _ _ _ _ _ _ _ (l .inv .3) m big (Taken (call j)) (l .i + width + 1) (omega arith) (omega (arith, n))
-          (line-stands _ _ _ _ _ _ _ _ _ _ _ _ (l .inv .3) m big (call j) e refl t)
-          _ _ _ _ _ _ (leaves j) (text-told j) (c .before .before .put-row .ensures),
+      one-line _ _ _ _ _ _ _ _ _ _ _ _ (l .inv .3) m big (Taken (call j)) (l .i + l .width + 1) (omega arith) (omega (arith, n))
+          (line-stands _ _ _ _ _ _ _ _ _ _ _ _ (l .inv .3) m big (call j) (l .width) (whole (stood j)) refl t)
+          _ _ _ _ _ _ (leaves j) (text-told j) (c .before .before .before .put-row .ensures),
+      c .standing2 .ensures,
     )
 
 progress-of-requires : tie.Need-progress-of-requires Inv-loop μ-loop
@@ -184,7 +193,7 @@ same-length c = search needs
 
 returns : tie.Need-returns Inv-loop μ-loop
 returns c =
-    let l = c .before .before .before .loop in
+    let l = c .before .before .loop in
     rw (c .progress-of .ensures) (l .inv .0, l .inv .1, l .inv .3)
 
 pub whole-lines-spec : {M : Type 1} → statement M
@@ -194,8 +203,8 @@ whole-lines-spec =
     Inv-loop
     μ-loop
     text-requires
+    standing-requires
     loop-holds
-    may-stand-requires
     add-end
     sub-read-line
     part-read-line-start
@@ -210,6 +219,7 @@ whole-lines-spec =
     put-row-requires
     add-w
     add-i
+    standing-requires-2
     loop-less
     loop-again
     progress-of-requires
