@@ -284,7 +284,7 @@ def stored_calls():
         if kind == 0:
             lists.append([])
         elif kind != 8 and not unasked:
-            lists[-1].append(f"{kind:2}{a:20}{b:20}{c:6}\n")
+            lists[-1].append(f"{kind:2}{a:20}{b:20}{c:8}\n")
         unasked = kind == 8
     for number, lines in enumerate(lists):
         calls = directory / f"{number}.calls"

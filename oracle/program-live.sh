@@ -1,8 +1,10 @@
 #!/bin/sh
 # Usage: oracle/program-live.sh [LISTS [SEED]]
 # Compares the program with the oracle: on fresh lists of every kind, damaged ones among them, on the
-# streamed list that comes to code 10, and on what a shell can hand it. Needs rustc, and asks 'rt check
-# answer' for the program. With PROGRAM=FILE in the environment that program is compared instead.
+# streamed lists that come to code 10 and that have lines of both widths, on two lists that are no fresh
+# ones, and on what a shell can hand it.
+# Needs rustc, and asks 'rt check answer' for the program. With PROGRAM=FILE in the environment that program
+# is compared instead.
 set -eu
 cd "$(dirname "$0")/.."
 lists=${1:-3000}
@@ -14,6 +16,7 @@ if [ -z "$program" ]; then
 fi
 answer=$PWD/$(oracle/build.sh answer)
 compare=$(oracle/build.sh compare)
+generate=$(oracle/build.sh generate)
 work=$(mktemp -d)
 trap 'rm -rf "$work"' EXIT
 
@@ -32,7 +35,9 @@ ends() {
 }
 
 ends "fresh lists" 300 0 "$compare" "$lists" "$seed" -- "$program"
-ends "a streamed list" 300 0 oracle/compare-stream.sh bytes "$program"
+for stream in bytes mixed; do
+    ends "a streamed list" 300 0 oracle/compare-stream.sh "$stream" "$program"
+done
 
 same() {
     "$answer" <"$work/list" >"$work/theirs"
@@ -40,15 +45,24 @@ same() {
     cmp "$work/theirs" "$work/ours"
     echo "$1: no difference"
 }
+for kind in full wide-chunks; do
+    "$generate" "$kind" 1 >"$work/list"
+    same "generate $kind 1"
+done
 read=' 7                   0                   0     0'
+wide_read=' 7                   0                   0       0'
 : >"$work/list"
 same "empty input"
 printf '%s' "$read" >"$work/list"
 same "a last line without newline"
+printf '%s\n%s' "$read" "$wide_read" >"$work/list"
+same "a wide last line without newline"
+printf '%s\n%s ' "$wide_read" "$read" >"$work/list"
+same "a last line of 49 columns without newline"
 head -c 3000000 /dev/urandom >"$work/list"
 same "3 MB of noise"
 head -c 100000000 /dev/zero | tr '\0' '7' >"$work/list"
-printf '\n%s\n' "$read" >>"$work/list"
+printf '\n%s\n%s\n' "$read" "$wide_read" >>"$work/list"
 same "a line of 100 MB"
 
 # A full and a closed output: the program ends, by the signal SIGPIPE (141) in the second case, and what

@@ -1,25 +1,32 @@
 #!/bin/sh
-# Usage: oracle/program.sh [DIRECTORY]
+# Usage: oracle/program.sh [DIRECTORY [KIND]]
 # Makes the call list that the gate hands to the program anew, by default into crates/answer: stdin is
 # the sample as one list (oracle/src/one_list.rs), stdout the oracle's answers. First, on a controller that
 # is fresh, stand the lines about the ends of chunks, document 01's example and what only a fresh controller
-# shows; the last line lacks its newline.
+# shows; the last line lacks its newline. Lists of KIND are left out.
 set -eu
 cd "$(dirname "$0")/.."
 to=${1:-crates/answer}
+without=${2:-}
 answer=$(oracle/build.sh answer)
 one_list=$(oracle/build.sh one_list)
 mkdir -p "$to"
 first=target/oracle/first.calls
+chunk=65536
 {
     cat oracle/sample/chunks-1.calls
+    # One line up to the chunk's end, where the next list has to start.
+    size=$(wc -c <oracle/sample/chunks-1.calls)
+    head -c $((chunk - size % chunk - 1)) /dev/zero | tr '\0' 7
+    echo
+    cat oracle/sample/wide-chunks-1.calls
     printf '%2d%20d%20d%6d\n' 1 4696837146684686336 0 0 7 0 0 0
     cat oracle/sample/fresh-1.calls
 } >"$first"
 set -- "$first"
 while read -r kind seed; do
     case $kind in
-    chunks | fresh) ;;
+    chunks | wide-chunks | fresh | "$without") ;;
     example) set -- "$@" "oracle/sample/$seed.calls" ;;
     *) set -- "$@" "oracle/sample/$kind-$seed.calls" ;;
     esac

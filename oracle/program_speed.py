@@ -4,10 +4,11 @@
 Usage: oracle/program_speed.py [--beside FILE] [RUNS [LINES]]
 
 Prints the best time of RUNS (default 15) of each and its ratio to the oracle's, for LINES lines (default
-1,500,000) of the stream realistic and of the stream changing, whose every answer changes. FILE is another
-program to time beside the two, an earlier build for instance. Exits with 1 where a program answers otherwise than
-the oracle, or the program is the slower one on the realistic list. Needs rustc, and asks 'rt check answer' for the
-program.
+1,500,000) of the stream realistic, of the same calls in wide lines and in lines of both widths, and of the stream
+changing, whose every answer changes. FILE is another program to time beside the two, an earlier build for instance;
+one that reads narrow lines alone is timed on those. Exits with 1 where the program answers otherwise than the oracle,
+FILE does on narrow lines, or the program is the slower one on a realistic list of any width. Needs rustc, and asks
+'rt check answer' for the program.
 """
 
 import subprocess
@@ -17,6 +18,9 @@ import time
 from pathlib import Path
 
 ROOT = Path(__file__).resolve().parent.parent
+# The same calls in lines of 48 columns, of 50, and of either (Q-10).
+REALISTIC = ("realistic", "wide", "mixed")
+WITH_WIDE_LINES = ("wide", "mixed")
 
 
 def built(name):
@@ -52,14 +56,25 @@ def seconds(program, path):
         return time.perf_counter() - start
 
 
+def agreeing(stream, programs, path):
+    """The programs to time. One that answers otherwise than the oracle ends the run, but for FILE on wide lines."""
+    expected = answers(programs["oracle"], path)
+    agree = {}
+    for name, program in programs.items():
+        if answers(program, path) == expected:
+            agree[name] = program
+        elif name == "beside" and stream in WITH_WIDE_LINES:
+            print(f"{stream}: {name} answers otherwise than the oracle and is not timed")
+        else:
+            sys.exit(f"{stream}: {name} answers otherwise than the oracle")
+    return agree
+
+
 def measure(stream, programs, runs, lines):
     """The best time of each program on the stream, printed beside its ratio to the oracle's; the ratios."""
     with tempfile.NamedTemporaryFile() as listed:
         write_list(stream, lines, listed.name)
-        expected = answers(programs["oracle"], listed.name)
-        for name, program in programs.items():
-            if answers(program, listed.name) != expected:
-                sys.exit(f"{stream}: {name} answers otherwise than the oracle")
+        programs = agreeing(stream, programs, listed.name)
         times = [[seconds(program, listed.name) for program in programs.values()] for _ in range(runs)]
     best = dict(zip(programs, map(min, zip(*times))))
     ratios = {name: taken / best["oracle"] for name, taken in best.items()}
@@ -87,8 +102,8 @@ def main():
         sys.exit(f"there is no file {programs['beside']}")
     subprocess.run(["rt", "check", "answer"], cwd=ROOT, check=True, stdout=subprocess.DEVNULL)
     programs["oracle"] = built("answer")
-    ratios = {stream: measure(stream, programs, runs, lines) for stream in ("realistic", "changing")}
-    return 1 if ratios["realistic"]["program"] > 1 else 0
+    ratios = {stream: measure(stream, programs, runs, lines) for stream in (*REALISTIC, "changing")}
+    return 1 if any(ratios[stream]["program"] > 1 for stream in REALISTIC) else 0
 
 
 if __name__ == "__main__":

@@ -11,6 +11,9 @@ answer=$(oracle/build.sh answer)
 line() {
     printf '%2s%20s%20s%6s\n' "$@"
 }
+wide_line() {
+    printf '%2s%20s%20s%8s\n' "$@"
+}
 
 # Usage: agrees PROGRAM ANSWERS, with a list on standard input. No pipe hides the program's status.
 agrees() {
@@ -56,16 +59,45 @@ observe 250000001 100 | holds "100 of 1,000 bytes lost" "$two_megabits"
 observe 250000000 100 | holds "a span of 250,000,000 ns" "$none"
 echo "document 01's values: agree"
 
+# The example in the other width, and mixed; lines that are 1 column off; the largest size and the next (Q-10).
+{
+    wide_line 1 4696837146684686336 0 0
+    line 7 0 0 0
+} >"$work/mixed.calls"
+agrees "$answer" "$work/example.answers" <"$work/mixed.calls"
+sed 's/0$/ 0/' "$work/mixed.calls" >"$work/off.calls"
+printf ' 1 0 0                   0 4576918229304087675\n' >"$work/shapeless"
+cat "$work/shapeless" "$work/shapeless" >"$work/off.answers"
+agrees "$answer" "$work/off.answers" <"$work/off.calls"
+fresh='0 0                   0 4576918229304087675'
+line 5 0 0 999999 | holds "999,999 bytes" " 0 $fresh"
+wide_line 5 0 0 9999999 | holds "9,999,999 bytes" " 0 $fresh"
+wide_line 5 0 2 10000000 | holds "10,000,000 bytes" "17 $fresh"
+wide_line 5 4000000000000000001 2 10000000 | holds "10,000,000 bytes too late" " 3 $fresh"
+wide_line 7 0 0 10000000 | holds "a read with a C" " 1 $fresh"
+echo "both widths: agree"
+
+# The same calls in lines of 48 columns, of 50, and of either.
+generate=$(oracle/build.sh generate)
+for stream in realistic wide mixed; do
+    "$generate" stream "$stream" >"$work/stream"
+    "$answer" <"$work/stream" >"$work/$stream.answers"
+    awk -v name="$stream" '{ many[length($0)]++ } END { print name ": " many[48] + 0 " narrow, " many[50] + 0 " wide" }' \
+        "$work/stream"
+    cmp "$work/realistic.answers" "$work/$stream.answers"
+done
+rm "$work/stream" "$work/wide.answers" "$work/mixed.answers"
+echo "two million lines in either width: agree"
+
 # Lines of any length, in constant memory.
-printf ' 1 0 0                   0 4576918229304087675\n' >"$work/long"
 head -c 200000000 /dev/zero | (
     ulimit -v 65536
-    agrees "$answer" "$work/long"
+    agrees "$answer" "$work/shapeless"
 )
 echo "a line of 200 MB: agrees"
 
 # Lines that come in parts.
-for calls in oracle/sample/damaged-*.calls; do
+for calls in oracle/sample/damaged-*.calls oracle/sample/mixed-*.calls; do
     dd if="$calls" bs=7 2>/dev/null | agrees "$answer" "${calls%.calls}.answers"
 done
 echo "lines in parts: agree"

@@ -30,7 +30,7 @@ REASONS = {
     "count": "wrong number of words",
     "rate": "wrong rate",
     "time": "wrong time",
-    "size": "wrong size",
+    "size": "wrong size: whole bytes, at most 9999999",
     "lost": "neither lost nor arrived",
 }
 MESSAGE = re.compile(rb"make_list: line ([1-9][0-9]*): (.*)", re.DOTALL)
@@ -38,7 +38,8 @@ MESSAGE = re.compile(rb"make_list: line ([1-9][0-9]*): (.*)", re.DOTALL)
 LONGEST = 256
 HIGHEST_RATE = 10**15
 LATEST = 4 * 10**18
-LARGEST = 65_535
+# A whole frame of the capture card.
+LARGEST = 9_999_999
 # How long a run may take, and how long a difference is made smaller.
 SECONDS = 120
 SHRINKING = 60
@@ -122,7 +123,7 @@ def answer(line):
         columns = call(line)
     except Wrong as why:
         return b"", why.args[0]
-    return (b"%2d%20d%20d%6d\n" % columns if columns else b""), None
+    return (b"%2d%20d%20d%8d\n" % columns if columns else b""), None
 
 
 def lines_of(text):
@@ -274,6 +275,23 @@ STORED = [
     b"packet 1 65536 lost",
     b"packet 1 65537 lost",
     b"packet 1 131072 arrived",
+    b"packet 1 65535 arrived",
+    b"packet 1 65536 arrived",
+    b"packet 1 99999 lost",
+    b"packet 1 999999 arrived",
+    b"packet 1 1000000 arrived",
+    b"packet 1 9999998 lost",
+    b"packet 1 9999999 lost",
+    b"packet 4000000000 9999999 arrived",
+    b"packet 1 10000000 lost",
+    b"packet 1 10000001 arrived",
+    b"packet 1 99999999 lost",
+    b"packet 1 100000000 lost",
+    b"packet 1 4294967295 arrived",
+    b"packet 1 4294967296 lost",
+    b"packet 1 4294967297 lost",
+    b"packet 1 99999999999999999999 arrived",
+    b"packet 1 09999999 lost",
     b"packet 1 18446744073709551617 lost",
     b"packet 1 00 lost",
     b"packet 1 01200 lost",
@@ -289,6 +307,10 @@ STORED = [
     b"packet x x x",
     b"packet 1 x x",
     b"packet x 1 lost",
+    b"packet x 10000000 lost",
+    b"packet 4000000000.000000001 10000000 x",
+    b"packet 1 10000000 x",
+    b"packet 1 10000000",
     b"packet off 1 lost",
     b"packet x x",
     b"packets x x",

@@ -1,4 +1,4 @@
-//! The line of a call: its 48 columns, written from the call alone.
+//! The line of a call: its 50 columns, written from the call alone.
 
 use crate::line::{Call, Code};
 use crate::stream::Reply;
@@ -28,5 +28,5 @@ fn text(call: &Call) -> String {
         Call::Report(bits) => (6, bits, 0, 0),
         Call::Read => (7, 0, 0, 0),
     };
-    format!("{kind:2}{a:20}{b:20}{c:6}")
+    format!("{kind:2}{a:20}{b:20}{c:8}")
 }

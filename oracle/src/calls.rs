@@ -27,7 +27,7 @@ use answer_line::Answer;
 use bwe::call_list::{Program, Reads};
 use line::Code;
 use random::Random;
-use tie::{text, Line};
+use tie::Line;
 
 /// Kinds and seeds of the generator. The ties, near and argument tell roundings of objective and logarithm.
 const LISTS: &[(&str, &[Range<u64>])] = &[
@@ -45,6 +45,13 @@ const LISTS: &[(&str, &[Range<u64>])] = &[
     ("fresh", &[1..2]),
     ("near", &[2_701..2_702, 2_706..2_707, 91_630..91_631]),
     ("argument", &[20..21, 24..25, 31..32, 138..139, 140..141, 218..219, 229..230, 463..464]),
+];
+
+/// The same for lists with frames, whose refused reports have sizes that are too large.
+const WIDE_LISTS: &[(&str, &[Range<u64>])] = &[
+    ("frames", &[1..4, 34..35, 49..50, 60..61]),
+    ("mixed", &[1..4]),
+    ("wide-asides", &[10..12, 18..19]),
 ];
 
 /// A list of `examples/` on which the Rust's grouping of the bias publishes another rate.
@@ -92,45 +99,75 @@ impl Oracle {
 
     /// A call of a list.
     fn listed(&mut self, call: Line) -> Answer {
-        self.program.answer(text(&call).as_bytes())
+        self.program.answer(&wide(call))
     }
 
     /// Another packet takes the place of one that is not in order, since their report is never played.
     fn queue_unasked(&mut self, [_, time, flag, bytes]: Line) -> Answer {
-        let asked = self.listed([QUEUE, time, flag, bytes]);
-        if asked.refusal != line::TIME && asked.refusal != line::FLAG {
-            return asked;
-        }
+        let Err(refusal) = line::packet(time, flag, bytes) else {
+            return self.listed([QUEUE, time, flag, bytes]);
+        };
         let placed = self.listed([QUEUE, 0, 0, 0]);
         if placed.refusal == 0 && self.refused == 0 {
-            self.refused = asked.refusal;
+            self.refused = refusal;
         }
         placed
     }
 
-    /// The delay estimate's 2 comes before the packets' 3 and 8.
+    /// The delay estimate's 2 comes before the packets' 3, 17 and 8.
     fn report(&mut self, call: Line) -> Answer {
         let refused = mem::take(&mut self.refused);
-        if refused == 0 || line::read(text(&call).as_bytes()) == Err(line::RATE) {
+        if refused == 0 || line::read(&wide(call)) == Err(line::RATE) {
             return self.listed(call);
         }
         self.program.refuse_report(refused)
     }
 }
 
-fn lists() -> Vec<Vec<u8>> {
-    let mut lists = vec![GROUPING.to_vec()];
-    for (name, seeds) in LISTS {
-        for seed in seeds.iter().cloned().flatten() {
-            lists.push(kinds::make(name, seed).expect("a kind's name"));
-        }
-    }
-    lists
+fn wide([kind, a, b, c]: Line) -> Vec<u8> {
+    format!("{kind:2}{a:20}{b:20}{c:8}").into_bytes()
 }
+
+fn lists(named: &[(&str, &[Range<u64>])]) -> Vec<Vec<u8>> {
+    let seeds = |ranges: &[Range<u64>]| ranges.iter().cloned().flatten().collect::<Vec<_>>();
+    let make = |name, seed| kinds::make(name, seed).expect("a kind's name");
+    named
+        .iter()
+        .flat_map(|&(name, ranges)| seeds(ranges).into_iter().map(move |seed| make(name, seed)))
+        .collect()
+}
+
+fn sequences() -> Vec<Vec<Line>> {
+    let mut random = Random::new(SEED);
+    let narrow = [vec![GROUPING.to_vec()], lists(LISTS)].concat();
+    let mut all = vec![];
+    for list in narrow {
+        all.push(sequence(&list, &mut random, (11, refused)));
+    }
+    for list in lists(WIDE_LISTS) {
+        all.push(sequence(&list, &mut random, (3, refused_among_frames)));
+    }
+    all.push(large_sums());
+    all
+}
+
+/// Frames whose bytes, and lost bytes, pass 2^32 within a report.
+fn large_sums() -> Vec<Line> {
+    let rate = 1e9_f64.to_bits();
+    let mut calls = vec![[FRESH, 0, 0, 0], [ESTIMATE, rate, 0, 0]];
+    for (seconds, lost) in [(0, 1), (0, 0), (1, 0), (2, 1)] {
+        calls.extend([[QUEUE, seconds * 1_000_000_000, lost, line::LARGEST_SIZE]; 450]);
+        calls.push([REPORT, rate, 0, 0]);
+    }
+    calls
+}
+
+/// After one report in how many a call is refused, and the maker of that call.
+type Refused = (u64, fn(&mut Random, &mut Vec<Line>));
 
 /// The calls of a list that are in shape, behind a fresh controller; after some of the reports, where
 /// the queue is empty, a call that is refused.
-fn sequence(list: &[u8], random: &mut Random) -> Vec<Line> {
+fn sequence(list: &[u8], random: &mut Random, (every, refused): Refused) -> Vec<Line> {
     let mut calls = vec![[FRESH, 0, 0, 0]];
     for line in list.split(|&byte| byte == b'\n') {
         if line::read(line) == Err(line::NOT_IN_SHAPE) {
@@ -138,7 +175,7 @@ fn sequence(list: &[u8], random: &mut Random) -> Vec<Line> {
         }
         let (kind, a, b, c) = line::columns(line).expect("a line in shape");
         calls.push([kind, a, b, c]);
-        if kind == REPORT && random.below(11) == 0 {
+        if kind == REPORT && random.below(every) == 0 {
             refused(random, &mut calls);
         }
     }
@@ -153,6 +190,14 @@ fn refused(random: &mut Random, calls: &mut Vec<Line>) {
         ALR => calls.push([ALR, late(random), 1, 0]),
         CAPACITY => calls.push([CAPACITY, refused_rate(random), 1, 0]),
         _ => refused_report(random, calls),
+    }
+}
+
+/// The same among frames: mostly reports.
+fn refused_among_frames(random: &mut Random, calls: &mut Vec<Line>) {
+    match random.below(4) {
+        0 => refused(random, calls),
+        _ => refused_frames(random, calls),
     }
 }
 
@@ -191,17 +236,50 @@ fn refused_report(random: &mut Random, calls: &mut Vec<Line>) {
     calls.push([REPORT, delay, 0, 0]);
 }
 
+/// Up to five frames, of which some are not in order: late, too large, with a wrong flag, or two or three
+/// of these at once.
+fn refused_frames(random: &mut Random, calls: &mut Vec<Line>) {
+    let count = 1 + random.below(5);
+    let wrong = random.below(count);
+    for place in 0..count {
+        let faults = match random.below(3) {
+            _ if place == wrong => 1 + random.below(7),
+            0 => random.below(8),
+            _ => 0,
+        };
+        let time = if faults & 1 != 0 { late(random) } else { random.below(1 << 40) };
+        let bytes =
+            if faults & 2 != 0 { large(random) } else { random.below(line::LARGEST_SIZE + 1) };
+        let flag = if faults & 4 != 0 { wrong_flag(random) } else { random.below(2) };
+        calls.push([UNASKED, time, flag, bytes]);
+    }
+    let delay = if random.below(8) == 0 { refused_rate(random) } else { 1e6_f64.to_bits() };
+    calls.push([REPORT, delay, 0, 0]);
+}
+
+/// A size that is too large, of 32 bits.
+fn large(random: &mut Random) -> u64 {
+    const EDGES: [u64; 6] =
+        [10_000_000, 16_777_216, 99_999_999, 100_000_000, 1 << 31, u32::MAX as u64];
+    match random.below(2) {
+        0 => random.pick(&EDGES),
+        _ => random.below(u64::from(u32::MAX) - line::LARGEST_SIZE) + line::LARGEST_SIZE + 1,
+    }
+}
+
 fn wrong_flag(random: &mut Random) -> u64 {
     2 + random.below(254)
 }
+
+const CODES: usize = line::SIZE as usize + 1;
 
 /// How many answers have what.
 #[derive(Default)]
 struct Counts {
     calls: u64,
     observations: u64,
-    refusals: [u64; 16],
-    refused_reports: [u64; 16],
+    refusals: [u64; CODES],
+    refused_reports: [u64; CODES],
     states: [u64; 3],
     unpublished: u64,
     longer_holds: u64,
@@ -222,7 +300,7 @@ impl Counts {
 
     fn show(&self) {
         eprintln!("calls {}, observations completed {}", self.calls, self.observations);
-        for code in (1..16).filter(|&code| self.refusals[code] != 0) {
+        for code in (1..CODES).filter(|&code| self.refusals[code] != 0) {
             let (all, reports) = (self.refusals[code], self.refused_reports[code]);
             eprintln!("refusal {code}: {all}, of reports {reports}");
         }
@@ -242,7 +320,7 @@ fn write_answer(text: &mut String, answer: &Answer, reads: &Reads) {
     let Reads { ratio, count, .. } = reads;
     writeln!(
         text,
-        "{refusal:x} {state} {published} {rate:016x} {inherent_loss:016x} {ratio:016x} {count:08x}"
+        "{refusal:02x} {state} {published} {rate:016x} {inherent_loss:016x} {ratio:016x} {count:08x}"
     )
     .expect("a String grows");
 }
@@ -254,11 +332,10 @@ fn main() -> io::Result<ExitCode> {
         return Ok(ExitCode::from(2));
     };
     let (mut lines, mut answered) = (String::new(), String::new());
-    let mut random = Random::new(SEED);
     let mut oracle = Oracle::new();
     let mut counts = Counts::default();
-    for list in lists() {
-        for call in sequence(&list, &mut random) {
+    for sequence in sequences() {
+        for call in sequence {
             let before = oracle.program.reads();
             let answer = oracle.answer(call);
             let after = oracle.program.reads();

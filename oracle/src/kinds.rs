@@ -9,12 +9,16 @@ mod asides;
 mod corners;
 #[path = "kinds/damaged.rs"]
 mod damaged;
+#[path = "kinds/frames.rs"]
+mod frames;
 #[path = "kinds/fresh.rs"]
 mod fresh;
 #[path = "kinds/hold.rs"]
 mod hold;
 #[path = "kinds/link.rs"]
 mod link;
+#[path = "kinds/mixed.rs"]
+mod mixed;
 #[path = "kinds/targets.rs"]
 mod targets;
 #[path = "kinds/ties.rs"]
@@ -55,12 +59,21 @@ pub const KINDS: &[(&str, &str, Make)] = &[
         asides::brim_after_a_fall,
     ),
     ("chunks", "reads, with line ends about every 65,536th byte", corners::chunks),
+    ("frames", "a match of whole frames, in wide lines", frames::frames),
+    ("mixed", "lines of both widths, and their edges", mixed::mixed),
+    ("full", "10^12 running bytes of frames, more, and on after the refusal", frames::full),
+    ("wide-chunks", "wide lines, with line ends about every 65,536th byte", corners::wide_chunks),
+    ("wide-asides", "packets that are too large, where every field counts", asides::wide_asides),
 ];
+
+/// The first kind that knows wide lines.
+const FIRST_WIDE: &str = "frames";
 
 pub fn make(name: &str, seed: u64) -> Option<Vec<u8>> {
     let place = KINDS.iter().position(|kind| kind.0 == name)?;
     let mut random = Random::new(seed.wrapping_mul(1_000_003).wrapping_add(place as u64));
     let mut list = List::new();
+    list.small_c = KINDS[..=place].iter().all(|kind| kind.0 != FIRST_WIDE);
     // The first seeds of targets are their numbers; all seeds of near are numbers too.
     match name {
         "targets" if seed < targets::COUNT => targets::target(seed, &mut list),
@@ -70,11 +83,11 @@ pub fn make(name: &str, seed: u64) -> Option<Vec<u8>> {
     Some(list.text)
 }
 
-/// Lists of all kinds in turn; the long and always equal ones come seldom.
+/// Lists of all kinds in turn, a third of them with wide lines; the long and always equal ones come seldom.
 pub fn any(seed: u64) -> (&'static str, Vec<u8>) {
     let turn = [
-        "dense", "sparse", "hold", "wild", "ties", "small", "sparse", "corners", "ties", "damaged",
-        "hold", "targets",
+        "dense", "sparse", "frames", "hold", "wild", "mixed", "ties", "small", "frames", "sparse",
+        "corners", "mixed", "ties", "damaged", "frames", "hold", "targets", "mixed",
     ];
     let name = match seed % 100 {
         99 => "queue",

@@ -11,11 +11,14 @@ pub const FLAG: Code = 8;
 pub const SUMS: Code = 10;
 pub const COUNT: Code = 11;
 pub const QUEUE: Code = 12;
+pub const SIZE: Code = 17;
 
-pub const LINE_LENGTH: usize = 48;
+/// A line's length says how wide C is: six places or eight.
+pub const NARROW: usize = 48;
+pub const WIDE: usize = 50;
 pub const LATEST_TIME: u64 = 4_000_000_000_000_000_000;
 pub const HIGHEST_RATE: f64 = 1e15;
-const HIGHEST_C: u64 = 65_535;
+pub const LARGEST_SIZE: u64 = 9_999_999;
 
 #[derive(Debug, Clone, Copy, PartialEq)]
 pub struct Packet {
@@ -57,10 +60,7 @@ pub fn read(line: &[u8]) -> Result<Call, Code> {
             capacity.map_or(Ok(()), rate)?;
             Ok(Call::LinkCapacity(capacity))
         }
-        5 => {
-            time(a)?;
-            Ok(Call::Queue(Packet { time: a, lost: flag(b)?, bytes: c }))
-        }
+        5 => packet(a, b, c).map(Call::Queue),
         7 if a == 0 && b == 0 && c == 0 => Ok(Call::Read),
         _ => Err(NOT_IN_SHAPE),
     }
@@ -68,14 +68,21 @@ pub fn read(line: &[u8]) -> Result<Call, Code> {
 
 /// Kind, A, B and C, whether or not they fit together.
 pub fn columns(line: &[u8]) -> Option<(u64, u64, u64, u64)> {
-    if line.len() != LINE_LENGTH {
+    if line.len() != NARROW && line.len() != WIDE {
         return None;
     }
     let kind = number(&line[..2])?;
     let a = number(&line[2..22])?;
     let b = number(&line[22..42])?;
     let c = number(&line[42..])?;
-    (c <= HIGHEST_C).then_some((kind, a, b, c))
+    Some((kind, a, b, c))
+}
+
+/// A packet of kind 5: its time is asked first, then its size, then its flag.
+pub fn packet(a: u64, b: u64, c: u64) -> Result<Packet, Code> {
+    time(a)?;
+    size(c)?;
+    Ok(Packet { time: a, lost: flag(b)?, bytes: c })
 }
 
 /// A decimal number, right-justified with spaces, without leading zeros, below 2^64.
@@ -123,6 +130,13 @@ fn rate(bits: u64) -> Result<(), Code> {
 fn time(ns: u64) -> Result<(), Code> {
     if ns > LATEST_TIME {
         return Err(TIME);
+    }
+    Ok(())
+}
+
+fn size(bytes: u64) -> Result<(), Code> {
+    if bytes > LARGEST_SIZE {
+        return Err(SIZE);
     }
     Ok(())
 }

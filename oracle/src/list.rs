@@ -3,6 +3,7 @@
 
 use crate::answer_line::Answer;
 use crate::bwe::call_list::Program;
+use crate::line;
 
 pub struct List {
     pub text: Vec<u8>,
@@ -10,13 +11,20 @@ pub struct List {
     pub last: Answer,
     /// Added to every packet's time, for a list that follows another.
     pub shift: u64,
+    /// Whether lines are written with 50 columns.
+    pub wide: bool,
+    /// Plays a narrow line with a C above 65,535 as one out of shape, which it was when the kinds that only
+    /// write narrow lines were made: their lists depend on what is published.
+    pub small_c: bool,
 }
+
+const LARGEST_SMALL_C: u64 = 65_535;
 
 impl List {
     pub fn new() -> Self {
         let mut program = Program::new();
         let last = program.answer(b"");
-        List { text: vec![], program, last, shift: 0 }
+        List { text: vec![], program, last, shift: 0, wide: false, small_c: false }
     }
 
     /// A line of any bytes.
@@ -24,12 +32,14 @@ impl List {
         self.text.extend_from_slice(line);
         self.text.push(b'\n');
         for line in line.split(|&byte| byte == b'\n') {
-            self.last = self.program.answer(line);
+            let played = if self.small_c && has_large_c(line) { b"" } else { line };
+            self.last = self.program.answer(played);
         }
     }
 
     pub fn line(&mut self, kind: u64, a: u64, b: u64, c: u64) {
-        self.raw(format!("{kind:2}{a:20}{b:20}{c:6}").as_bytes());
+        let places = if self.wide { 8 } else { 6 };
+        self.raw(format!("{kind:2}{a:20}{b:20}{c:places$}").as_bytes());
     }
 
     pub fn estimate(&mut self, rate: f64) {
@@ -78,4 +88,8 @@ impl List {
     pub fn is_increasing(&self) -> bool {
         self.last.state == 1
     }
+}
+
+fn has_large_c(line: &[u8]) -> bool {
+    matches!(line::columns(line), Some((_, _, _, c)) if c > LARGEST_SMALL_C)
 }

@@ -22,7 +22,7 @@ mod line;
 #[allow(dead_code)]
 mod list;
 
-use line::{Call, LATEST_TIME};
+use line::{Call, LATEST_TIME, WIDE};
 use list::List;
 
 const MS: u64 = 1_000_000;
@@ -43,15 +43,20 @@ fn latest(text: &[u8]) -> u64 {
     text.split(|&byte| byte == b'\n').map(time).max().unwrap_or(0)
 }
 
-/// The list's lines, with its packets' times moved; a last line without newline gets one.
+/// The list's lines, with its packets' times moved, each in its own width; a last line without newline
+/// gets one.
 fn play(list: &mut List, text: &[u8]) {
     let text = text.strip_suffix(b"\n").unwrap_or(text);
     for line in text.split(|&byte| byte == b'\n') {
         match line::read(line) {
-            Ok(Call::Queue(packet)) => list.packet(packet.time, packet.lost, packet.bytes),
+            Ok(Call::Queue(packet)) => {
+                list.wide = line.len() == WIDE;
+                list.packet(packet.time, packet.lost, packet.bytes);
+            }
             _ => list.raw(line),
         }
     }
+    list.wide = false;
 }
 
 fn observe(list: &mut List, time: u64, lost: u64) {

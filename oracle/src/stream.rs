@@ -3,7 +3,7 @@
 use std::io::{self, Read, Write};
 
 use crate::answer_line::{Answer, ANSWER_LENGTH};
-use crate::line::LINE_LENGTH;
+use crate::line::WIDE;
 
 const CHUNK: usize = 1 << 16;
 
@@ -24,8 +24,8 @@ impl Reply for Answer {
     }
 }
 
-/// The start of a line that goes on in the next chunk. One byte more than a line has is enough to
-/// know that it is too long.
+/// The start of a line that goes on in the next chunk. One byte more than a wide line has is enough
+/// to know that it is too long.
 #[derive(Default)]
 struct Begun {
     bytes: Vec<u8>,
@@ -34,7 +34,7 @@ struct Begun {
 
 impl Begun {
     fn add(&mut self, part: &[u8]) {
-        let room = (LINE_LENGTH + 1).saturating_sub(self.bytes.len());
+        let room = (WIDE + 1).saturating_sub(self.bytes.len());
         self.bytes.extend_from_slice(&part[..part.len().min(room)]);
         self.any |= !part.is_empty();
     }

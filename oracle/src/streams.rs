@@ -2,7 +2,9 @@
 
 use std::io::{self, Write};
 
+use crate::line::NARROW;
 use crate::random::Random;
+use crate::tie::text;
 
 type Stream = fn(&mut dyn Write) -> io::Result<()>;
 
@@ -12,6 +14,8 @@ pub const STREAMS: &[(&str, &str, Stream)] = &[
     ("count", "10^9 observations and one more (2 x 10^9 lines)", count),
     ("infinity", "zero bytes drive the rate to infinity (68,000 lines)", infinity),
     ("realistic", "dense lists end to end, two million lines", realistic),
+    ("wide", "the calls of realistic in wide lines", |out| realistic_in(out, widened)),
+    ("mixed", "the same with each line's width at random", |out| realistic_in(out, either_width)),
     (
         "changing",
         "estimates, each another rate, so that every answer changes, two million lines",
@@ -34,7 +38,7 @@ pub fn write(name: &str, out: &mut impl Write) -> io::Result<()> {
 }
 
 fn call(out: &mut dyn Write, kind: u64, a: u64, b: u64, c: u64) -> io::Result<()> {
-    writeln!(out, "{kind:2}{a:20}{b:20}{c:6}")
+    writeln!(out, "{}", text(&[kind, a, b, c]))
 }
 
 fn estimate(out: &mut dyn Write, rate: f64) -> io::Result<()> {
@@ -131,19 +135,40 @@ fn infinity(out: &mut dyn Write) -> io::Result<()> {
 }
 
 fn realistic(out: &mut dyn Write) -> io::Result<()> {
+    realistic_in(out, |_, line| line.to_vec())
+}
+
+/// What a line is written as.
+type Form = fn(&mut Random, &[u8]) -> Vec<u8>;
+
+fn realistic_in(out: &mut dyn Write, form: Form) -> io::Result<()> {
+    // The next list's times start anew, which an ALR change allows.
+    let between = [[3, 1, 1, 0], [3, 0, 0, 0]].map(|line| text(&line) + "\n").concat();
+    let mut random = Random::new(1);
     let mut lines = 0;
     for seed in 0.. {
-        let text = crate::kinds::make("dense", seed).expect("a kind's name");
-        out.write_all(&text)?;
-        // The next list's times start anew, which an ALR change allows.
-        call(out, 3, 1, 1, 0)?;
-        call(out, 3, 0, 0, 0)?;
-        lines += text.len() / 49;
+        let list = crate::kinds::make("dense", seed).expect("a kind's name");
+        for line in [&list, between.as_bytes()].concat().split_inclusive(|&byte| byte == b'\n') {
+            out.write_all(&form(&mut random, line))?;
+        }
+        lines += list.len() / (NARROW + 1);
         if lines >= 2_000_000 {
             break;
         }
     }
     Ok(())
+}
+
+/// A narrow line with two spaces more before C.
+fn widened(_: &mut Random, narrow: &[u8]) -> Vec<u8> {
+    [&narrow[..42], b"  ", &narrow[42..]].concat()
+}
+
+fn either_width(random: &mut Random, narrow: &[u8]) -> Vec<u8> {
+    match random.below(2) {
+        0 => narrow.to_vec(),
+        _ => widened(random, narrow),
+    }
 }
 
 fn changing(out: &mut dyn Write) -> io::Result<()> {

@@ -14,6 +14,7 @@ pub struct Tie {
     free: usize,
 }
 
+/// The narrow line.
 pub fn text(line: &Line) -> String {
     let [kind, a, b, c] = line;
     format!("{kind:2}{a:20}{b:20}{c:6}")

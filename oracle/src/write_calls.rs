@@ -2,8 +2,8 @@
 //! writes DIRECTORY/stdin, the calls, and DIRECTORY/stdout, the answers; standard error gets how many answers
 //! have what. Usage: write_calls differs DIRECTORY FILE says at which call the answers in FILE differ first.
 //!
-//! A call is a line of 30 bytes, five fields in lower-case hex: variant (1 digit), A (16: rate bits or ns), lost
-//! (2), size (4), room (2), a space between and a newline behind; a field that the variant lacks is 0. An answer
+//! A call is a line of 34 bytes, five fields in lower-case hex: variant (1 digit), A (16: rate bits or ns), lost
+//! (2), size (8), room (2), a space between and a newline behind; a field that the variant lacks is 0. An answer
 //! is the refusal in two columns, a space, the buffer after the call, and a newline. The buffer has `room` bytes,
 //! all '.' before the call; a line that is written ends in it with its own newline.
 //!
@@ -24,18 +24,18 @@ mod random;
 #[allow(dead_code)]
 mod stream;
 
-use line::Code;
+use line::{Call, Code};
 use random::Random;
 use stream::Reply;
 
 /// The buffer is too short for the line.
 const ROOM: Code = 13;
-const WRITTEN: usize = line::LINE_LENGTH + 1;
+const WRITTEN: usize = line::WIDE + 1;
 
 const UNTOUCHED: u8 = b'.';
 const LONGEST: u64 = 64;
 /// The bytes of a call's line, and of an answer besides its buffer.
-const CALL: usize = 30;
+const CALL: usize = 34;
 const BESIDE: usize = 4;
 
 const ESTIMATE: u8 = 0;
@@ -58,7 +58,7 @@ struct Handed {
     variant: u8,
     a: u64,
     lost: u8,
-    size: u16,
+    size: u32,
     room: usize,
 }
 
@@ -107,14 +107,26 @@ impl Handed {
             REPORT => (6, 0),
             _ => (7, 0),
         };
-        format!("{kind:2}{a:20}{b:20}{size:6}")
+        format!("{kind:2}{a:20}{b:20}{size:8}")
+    }
+
+    /// What the reader says to the call. A size of more than eight digits has no line; a packet is judged
+    /// without one.
+    fn judged(&self, line: &str) -> Result<Call, Code> {
+        let read = line::read(line.as_bytes());
+        if self.variant != PACKET {
+            return read;
+        }
+        let packet = line::packet(self.a, self.lost.into(), self.size.into()).map(Call::Queue);
+        assert!(line.len() > line::WIDE || read == packet, "the line is read otherwise");
+        packet
     }
 
     /// The refusal, and the buffer after the call.
     fn answer(&self) -> (Code, Vec<u8>) {
         let line = self.line();
         let mut buffer = vec![UNTOUCHED; self.room];
-        let refusal = match line::read(line.as_bytes()) {
+        let refusal = match self.judged(&line) {
             Err(code) => code,
             Ok(_) if self.room < WRITTEN => ROOM,
             read => {
@@ -130,7 +142,7 @@ impl Handed {
 
     fn write(&self, mut calls: impl Write) -> io::Result<()> {
         let Handed { variant, a, lost, size, room } = self;
-        writeln!(calls, "{variant:x} {a:016x} {lost:02x} {size:04x} {room:02x}")
+        writeln!(calls, "{variant:x} {a:016x} {lost:02x} {size:08x} {room:02x}")
     }
 }
 
@@ -205,33 +217,40 @@ fn lost(random: &mut Random) -> u8 {
     }
 }
 
-fn size(random: &mut Random) -> u16 {
-    match random.below(3) {
-        0 => random
-            .pick(&[0, 1, 9, 10, 99, 100, 255, 256, 999, 1_000, 9_999, 10_000, 65_534, 65_535]),
-        1 => random.below(1_500) as u16,
-        _ => random.below(65_536) as u16,
+fn size(random: &mut Random) -> u32 {
+    match random.below(8) {
+        0 => random.pick(&[0, 1, 9, 10, 99, 100, 255, 256, 999, 1_000, 9_999, 10_000, 99_999]),
+        1 => random.pick(&[65_535, 65_536, 100_000, 999_999, 1_000_000, 9_999_998, 9_999_999]),
+        2 => random.pick(&[10_000_000, 10_000_001, 99_999_999, 100_000_000, u32::MAX]),
+        3 => random.bits() as u32,
+        4 => random.bits() as u32 >> random.below(32),
+        5 => random.below(1_500) as u32,
+        _ => random.below(line::LARGEST_SIZE + 1) as u32,
     }
 }
 
 fn room(random: &mut Random) -> usize {
     let room = match random.below(8) {
-        0 => random.pick(&[0, 1, 2, 46, 47, 48]),
+        0 => random.pick(&[0, 1, 2, 48, 49, 50]),
         1 => random.below(LONGEST + 1),
-        2 => random.pick(&[50, LONGEST]),
+        2 => random.pick(&[52, LONGEST]),
         3 => WRITTEN as u64 + random.below(LONGEST - WRITTEN as u64 + 1),
         _ => WRITTEN as u64,
     };
     room as usize
 }
 
+const CODES: usize = line::SIZE as usize + 1;
+
 /// How many answers have what.
 #[derive(Default)]
 struct Counts {
-    refusals: [u64; 16],
+    refusals: [u64; CODES],
     /// The same where the buffer would have been too short as well.
-    short: [u64; 16],
-    late_and_flagged: u64,
+    short: [u64; CODES],
+    /// The same where the size is too large as well, and where the flag is wrong.
+    large: [u64; CODES],
+    flagged: [u64; CODES],
     longer: u64,
 }
 
@@ -240,7 +259,8 @@ impl Counts {
         let place = usize::from(refusal);
         self.refusals[place] += 1;
         self.short[place] += u64::from(call.room < WRITTEN);
-        self.late_and_flagged += u64::from(refusal == line::TIME && call.lost > 1);
+        self.large[place] += u64::from(u64::from(call.size) > line::LARGEST_SIZE);
+        self.flagged[place] += u64::from(call.lost > 1);
         self.longer += u64::from(refusal == 0 && call.room > WRITTEN);
     }
 
@@ -249,13 +269,12 @@ impl Counts {
             "written {}, of which {} with bytes behind the newline",
             self.refusals[0], self.longer
         );
-        for code in [line::RATE, line::TIME, line::FLAG].map(usize::from) {
+        for code in [line::RATE, line::TIME, line::SIZE, line::FLAG].map(usize::from) {
             eprintln!(
-                "refusal {code}: {}, with a short buffer {}",
-                self.refusals[code], self.short[code]
+                "refusal {code}: {}, with a short buffer {}, a large size {}, a wrong flag {}",
+                self.refusals[code], self.short[code], self.large[code], self.flagged[code]
             );
         }
-        eprintln!("refusal 3 with a wrong flag too: {}", self.late_and_flagged);
         eprintln!("refusal 13: {}", self.refusals[usize::from(ROOM)]);
     }
 }

@@ -2,7 +2,7 @@
 //! ALR on, a link capacity and an acknowledged rate that bound the candidates, loss that comes and goes.
 
 use super::link::{near, Link, MS};
-use crate::line::LATEST_TIME;
+use crate::line::{LARGEST_SIZE, LATEST_TIME};
 use crate::list::List;
 use crate::random::Random;
 
@@ -14,6 +14,15 @@ pub fn asides(random: &mut Random, list: &mut List) {
     // A last line that lacks its newline.
     list.read();
     list.text.pop();
+}
+
+/// Packets that are too large, in wide lines.
+pub fn wide_asides(random: &mut Random, list: &mut List) {
+    list.wide = true;
+    let mut link = bounded(random, list);
+    for _ in 0..60 {
+        step(&mut link, random, list, 2, too_large);
+    }
 }
 
 /// A packet that finds the queue full, among observations as above and after a report that completes none.
@@ -57,6 +66,12 @@ pub fn brim_after_a_fall(_: &mut Random, list: &mut List) {
             list.packet(time * MS - place, false, 20);
         }
         list.report(9e9);
+    }
+}
+
+fn too_large(link: &Link, random: &mut Random, list: &mut List) {
+    if random.below(3) == 0 {
+        list.line(5, link.now, random.below(3), LARGEST_SIZE + 1);
     }
 }
 

@@ -248,17 +248,43 @@ pub fn queue(_: &mut Random, list: &mut List) {
     one(list, 4 * SECOND, false, 100, 2e7);
 }
 
+const CHUNK: usize = 65_536;
+
 /// A line about the end of each of the first chunks that a program reads: its newline is the next chunk's
 /// first byte, this one's last, or it goes on; empty lines; a line with more bytes than a line has.
 pub fn chunks(_: &mut Random, list: &mut List) {
-    const CHUNK: usize = 65_536;
     let read = b" 7                   0                   0     0".as_slice();
     let long = [read, b"     "].concat();
-    for (end, (line, before)) in
-        [(read, 48), (read, 49), (read, 20), (&long, 48), (&long, 49), (b"".as_slice(), 0)]
-            .into_iter()
-            .enumerate()
-    {
+    let ends = [(read, 48), (read, 49), (read, 20), (&long, 48), (&long, 49), (b"".as_slice(), 0)];
+    about_ends(list, &ends);
+}
+
+/// The same with wide lines. The packet is refused with 17, so that the controller stays fresh; its
+/// first 48 columns are a narrow line that is taken.
+pub fn wide_chunks(_: &mut Random, list: &mut List) {
+    list.wide = true;
+    let read = b" 7                   0                   0       0".as_slice();
+    let packet = b" 5                1000                   010000000".as_slice();
+    let long = [packet, b"     "].concat();
+    let ends = [
+        (read, 50),
+        (read, 51),
+        (packet, 20),
+        (packet, 48),
+        (packet, 49),
+        (packet, 50),
+        (packet, 51),
+        (&long, 48),
+        (&long, 50),
+        (&long[..51], 50),
+        (&long[..51], 51),
+    ];
+    about_ends(list, &ends);
+}
+
+/// Each line so that the chunk ends as many bytes behind its start.
+fn about_ends(list: &mut List, ends: &[(&[u8], usize)]) {
+    for (end, (line, before)) in ends.iter().enumerate() {
         // Lines up to there, the last of them long.
         list.read();
         let room = (end + 1) * CHUNK - before - list.text.len() - 1;

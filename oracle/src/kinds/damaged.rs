@@ -1,6 +1,7 @@
 //! Lines out of shape among good ones, and good lines that look odd.
 
 use super::link;
+use crate::line::WIDE;
 use crate::list::List;
 use crate::random::Random;
 
@@ -41,11 +42,13 @@ pub fn damaged(random: &mut Random, list: &mut List) {
     }
 }
 
-fn damage(random: &mut Random, good: &[u8]) -> Vec<u8> {
+/// A good line, narrow or wide, made wrong or odd.
+pub fn damage(random: &mut Random, good: &[u8]) -> Vec<u8> {
     let mut line = good.to_vec();
     if line.is_empty() {
         return line;
     }
+    let end = line.len();
     let place = random.below(line.len() as u64) as usize;
     match random.below(16) {
         0 => line.truncate(place),
@@ -56,10 +59,11 @@ fn damage(random: &mut Random, good: &[u8]) -> Vec<u8> {
         5 => line[place] = 128 + random.below(128) as u8,
         6 => line[place] = 0,
         7 => line.clear(),
+        8 if end == WIDE => line.resize(random.pick(&[47, 48, 49, 51, 52, 100, 5_000]), b' '),
         8 => line.resize(random.pick(&[47, 49, 50, 100, 5_000]), b' '),
         9 => line = good.trim_ascii_start().to_vec(),
         10 => line[random.pick(&[0, 2, 22, 42])] = b'0',
-        11 => line[random.pick(&[1, 21, 41, 47])] = b' ',
+        11 => line[random.pick(&[1, 21, 41, end - 1])] = b' ',
         12 => line[place] = b'/' + 11 * random.below(2) as u8,
         _ => return number(random, good),
     }
@@ -68,11 +72,8 @@ fn damage(random: &mut Random, good: &[u8]) -> Vec<u8> {
 
 /// One column filled with a number that is out of bounds or not written as numbers are.
 fn number(random: &mut Random, good: &[u8]) -> Vec<u8> {
-    if good.len() != 48 {
-        return good.to_vec();
-    }
     let text = random.pick(&NUMBERS);
-    let (start, end) = random.pick(&[(0, 2), (2, 22), (2, 22), (22, 42), (42, 48)]);
+    let (start, end) = random.pick(&[(0, 2), (2, 22), (2, 22), (22, 42), (42, good.len())]);
     let text = &text[..text.len().min(end - start)];
     let mut line = good.to_vec();
     line[start..end].fill(b' ');

@@ -13,11 +13,22 @@ pub struct Link {
     pub sending: f64,
     pub delay: f64,
     pub in_alr: bool,
+    rates: (f64, f64),
 }
 
 impl Link {
     pub fn new(random: &mut Random, list: &mut List) -> Self {
-        let sending = log_uniform(random, 5e4, 8e6);
+        Link::between(random, list, (5e4, 8e6), (3e4, 1e7))
+    }
+
+    /// A link whose rate lies between the first two at the start, and between the others after that.
+    pub fn between(
+        random: &mut Random,
+        list: &mut List,
+        first: (f64, f64),
+        rates: (f64, f64),
+    ) -> Self {
+        let sending = log_uniform(random, first.0, first.1);
         if random.below(8) != 0 {
             list.estimate(whole_or_not(random, sending * 1.1));
         }
@@ -25,7 +36,7 @@ impl Link {
             list.acknowledged(whole_or_not(random, sending));
         }
         let now = if random.below(4) == 0 { 0 } else { random.below(1_000_000) * MS };
-        Link { now, loss: 0.0, sending, delay: sending * 4.0, in_alr: false }
+        Link { now, loss: 0.0, sending, delay: sending * 4.0, in_alr: false, rates }
     }
 
     /// The link and its estimators between two observations.
@@ -34,7 +45,7 @@ impl Link {
             self.loss = loss(random);
         }
         if random.below(6) == 0 {
-            self.sending = log_uniform(random, 3e4, 1e7);
+            self.sending = log_uniform(random, self.rates.0, self.rates.1);
         }
         if random.below(4) == 0 {
             self.delay = near(random, list, self.sending);
@@ -131,7 +142,7 @@ pub fn near(random: &mut Random, list: &List, about: f64) -> f64 {
     }
 }
 
-fn span(random: &mut Random) -> u64 {
+pub fn span(random: &mut Random) -> u64 {
     match random.below(20) {
         0 => 250 * MS,
         1 => 250 * MS + 1,
