@@ -264,7 +264,13 @@ pub line-written :
     (ws : List ℕ) → Four ws → (k a b c : ℕ) → Fits (getD ws 0 0) k → Fits (getD ws 1 0) a → Fits (getD ws 2 0) b → Fits (getD ws 3 0) c
     → fieldsIn ws (row ws (k ∷ a ∷ b ∷ c ∷ [])) ≡ Read k a b c
 unfolding fieldsIn four
-line-written ws w k a b c fk fa fb fc = simp (column-read 0 k (lit< tt) refl fk, column-read 1 a (lit< tt) refl fa, column-read 2 b (lit< tt) refl fb, column-read 3 c (lit< tt) refl fc)
+line-written ws w k a b c fk fa fb fc =
+    simp (
+      column-read 0 k (lit< tt) refl fk,
+      column-read 1 a (lit< tt) refl fa,
+      column-read 2 b (lit< tt) refl fb,
+      column-read 3 c (lit< tt) refl fc,
+    )
   where
     ns : List ℕ
     ns = k ∷ a ∷ b ∷ c ∷ []
