@@ -1,6 +1,7 @@
 -- Worked examples of the definitions beside this file, which antt computes. They test the definitions; no proof cites them.
 use Prim.Native.Nat.{ℕ, _+_, _-_, _^_}
 use mathlib.Core.Path.{_≡_, refl}
+use mathlib.Core.Bool.{true, false}
 use mathlib.Core.List.{List, [], _∷_, _++_, map}
 use lib.IntN.{ℤ, pos, negsuc}
 use lib.ListN.{replicate}
@@ -90,6 +91,73 @@ over-examples :
     minusOne ∷ bps 0x3FE0000000000000 ∷ bps 0 ∷ bps 0x8000000000000000 ∷ notANumber ∷ []
 unfolding div eq ofBits Rate.over
 over-examples = (refl, refl, refl)
+
+-- ---- the limit of 10^15 bit/s (Q-5)
+
+-- it is 10^15, a whole number that a float holds
+most-is : Rate.mostRate ≡ Rate.nearest (10 ^ 15)
+unfolding ofBits ofInt
+most-is = refl
+
+-- half of it, it and the next float; 10^300 and its negative; the negative of it and of its double
+abbrev halfMost : Bitrate
+halfMost = bps 0x42FC6BF526340000
+
+abbrev pastMost : Bitrate
+pastMost = bps 0x430C6BF526340001
+
+abbrev huge : Bitrate
+huge = bps 0x7E37E43C8800759C
+
+abbrev minusHuge : Bitrate
+minusHuge = bps 0xFE37E43C8800759C
+
+abbrev minusMost : Bitrate
+minusMost = bps 0xC30C6BF526340000
+
+abbrev minusTwice : Bitrate
+minusTwice = bps 0xC31C6BF526340000
+
+abbrev product : Bitrate → Bitrate → Bitrate
+product r factor = Rate.times r (factor .bps)
+
+-- twice the half is the limit itself, twice the limit is cut; times 1.02, and the next float times 1; 10^300 squared, which fits no float
+products-cut :
+    product halfMost two ∷ product Rate.mostRate two ∷ product Rate.mostRate (bps 0x3FF051EB851EB852) ∷ product pastMost one ∷ product huge huge ∷ [] ≡
+    replicate 5 Rate.mostRate
+unfolding lt mul ofBits Rate.limited Rate.times
+products-cut = refl
+
+-- negative results stay, minus infinity too; so does what comes of an operand that is not finite: infinity, also as the factor, and NaN
+products-kept :
+    product minusMost two ∷ product minusHuge huge ∷ [] ≡ minusTwice ∷ leastRate ∷ []
+    × product infinite two ∷ product two infinite ∷ product leastRate minusOne ∷ product infinite infinite ∷ [] ≡ replicate 4 infinite
+    × product notANumber two ∷ product infinite (bps 0) ∷ [] ≡ replicate 2 notANumber
+unfolding lt mul ofBits Rate.limited Rate.times
+products-kept = (refl, refl, refl)
+
+-- the same of sums: half and half, the limit and one bit/s more, the next float and 0.0, the largest float twice
+sums-cut :
+    Rate.plus halfMost halfMost ∷ Rate.plus Rate.mostRate one ∷ Rate.plus pastMost (bps 0) ∷ Rate.plus (bps 0x7FEFFFFFFFFFFFFF) (bps 0x7FEFFFFFFFFFFFFF) ∷ []
+    ≡ replicate 4 Rate.mostRate
+unfolding add lt ofBits Rate.limited Rate.plus
+sums-cut = refl
+
+sums-kept :
+    Rate.plus minusMost minusMost ∷ Rate.plus minusHuge minusMost ∷ [] ≡ minusTwice ∷ minusHuge ∷ []
+    × Rate.plus infinite one ∷ Rate.plus one infinite ∷ Rate.plus infinite huge ∷ Rate.plus infinite infinite ∷ [] ≡ replicate 4 infinite
+    × Rate.plus infinite leastRate ∷ Rate.plus one notANumber ∷ [] ≡ replicate 2 notANumber
+unfolding add lt ofBits Rate.limited Rate.plus
+sums-kept = (refl, refl, refl)
+
+-- the limit by itself: of 10^300 and of infinity, which came of finite operands or not
+limits :
+    Rate.limited true huge ∷ Rate.limited true infinite ∷ Rate.limited false huge ∷ Rate.limited false infinite ∷ Rate.limited true minusHuge ∷ [] ≡
+    Rate.mostRate ∷ Rate.mostRate ∷ huge ∷ infinite ∷ minusHuge ∷ []
+unfolding lt ofBits Rate.limited
+limits = refl
+
+-- ---- rates and sizes
 
 -- 12 bit/s for a second are 1.5 bytes: 2; so -12 bit/s give -2; infinity the largest size; minus infinity the least; NaN 0
 carried-examples :

@@ -1,9 +1,9 @@
 -- Rates: what `Bitrate` of bandwidth.rs answers. Definitions only.
 use Prim.Native.Nat.{ℕ, _^_}
-use mathlib.Core.Bool.{cond}
+use mathlib.Core.Bool.{Bool, cond, _&&_}
 use lib.Dec.{ltb}
 use lib.IntN.{pos}
-use lib.Ieee.{Float, binary64, ofInt, toSigned, toUnsigned, le, eq}
+use lib.Ieee.{Float, binary64, ofInt, toSigned, toUnsigned, le, lt, eq}
 use lib.Ieee.Scale.{finite}
 use Rattle.float.specs.Rounded.{_⊕_, _⊖_, _⊗_, _⊘_, bits, eight}
 use Rattle.float.specs.Rust.{minimum, maximum, ceiling, halfAway}
@@ -28,6 +28,10 @@ answered r = record { rate = r; refusal = 0 }
 -- a refused rate is 0.0 beside the number 7
 abbrev pub refused : RateAnswer
 refused = record { rate = zero; refusal = 7 }
+
+-- 10^15 bit/s: the most that code 2 takes, and the limit of products, sums and candidates (Q-5)
+abbrev pub mostRate : Bitrate
+mostRate = rate (bits 0x430C6BF526340000)
 
 -- ---- from whole numbers
 
@@ -68,16 +72,21 @@ larger a b = rate (maximum (a .bps) (b .bps))
 unfoldable pub carried : Bitrate → Duration → DataSize
 carried r d = record { bytes = toSigned 63 (halfAway (r .bps ⊗ seconds d ⊘ eight)) }
 
--- rate × factor (Mul<f64>)
+-- "becomes 10^15 bit/s when its operands are finite and the result is larger. Infinite operands, which mean "absent", act as before." (Q-5)
+unfoldable pub limited : Bool → Bitrate → Bitrate
+limited operandsFinite r = cond (operandsFinite && lt (mostRate .bps) (r .bps)) mostRate r
+
+-- "a rate times a factor" (Mul<f64>)
 unfoldable pub times : Bitrate → Float → Bitrate
-times r x = rate (r .bps ⊗ x)
+times r x = limited (finite (r .bps) && finite x) (rate (r .bps ⊗ x))
 
 -- refused unless the first is at least the second, so also where one is NaN (Sub)
 unfoldable pub minus : Bitrate → Bitrate → RateAnswer
 minus a b = cond (le (b .bps) (a .bps)) (answered (rate (a .bps ⊖ b .bps))) refused
 
+-- "a rate plus a rate" (Add)
 unfoldable pub plus : Bitrate → Bitrate → Bitrate
-plus a b = rate (a .bps ⊕ b .bps)
+plus a b = limited (finite (a .bps) && finite (b .bps)) (rate (a .bps ⊕ b .bps))
 
 -- a rate over 0.0 gives rate zero (Div<f64>)
 unfoldable pub over : Bitrate → Float → Bitrate

@@ -5,7 +5,7 @@ ghost use lib.IntN.{pos, _*ℤ_};
 ghost use lib.Signed.{leZ, ltZ};
 ghost use lib.Ieee.{eq, inf, le, lt};
 ghost use lib.Ieee.Scale.{finite};
-ghost use mathlib.Core.Bool.{true, false};
+ghost use mathlib.Core.Bool.{true, false, _&&_};
 ghost use Rattle.float.specs.Order.{partialOrder};
 ghost use Rattle.integer.specs.Fitted.{fitted, ordered};
 ghost use Rattle.bandwidth.specs.Rate as Rate;
@@ -59,6 +59,8 @@ impl Bitrate {
     pub const MAX: Bitrate = Bitrate {
         bps: 18446744073709551616.0,
     };
+    // 10^15 bit/s: the most that a setter takes, and the limit of products, sums and candidates.
+    pub const MOST: Bitrate = Bitrate { bps: 1.0e15 };
 
     // Bitrate::INFINITY: useful as an invalid value with comparison semantics.
     pub fn infinity() -> Bitrate
@@ -188,9 +190,10 @@ impl Bitrate {
     pub fn mul_f64(self, rhs: f64) -> Bitrate
         ensures { λ r. ⌜ r ≡ Rate.times self rhs ⌝ }
     {
-        Bitrate {
+        let product = Bitrate {
             bps: self.bps * rhs,
-        }
+        };
+        product.limited(are_finite(self.bps, rhs))
     }
 
     // Sub: Rust asserts that the first is at least the second; here the rest is refusal 7.
@@ -212,9 +215,23 @@ impl Bitrate {
     pub fn add(self, rhs: Bitrate) -> Bitrate
         ensures { λ r. ⌜ r ≡ Rate.plus self rhs ⌝ }
     {
-        Bitrate {
+        let sum = Bitrate {
             bps: self.bps + rhs.bps,
+        };
+        sum.limited(are_finite(self.bps, rhs.bps))
+    }
+
+    // What finite operands gave is at most MOST. An operand that is not finite stands for an absent
+    // rate, and what came of it stays.
+    pub fn limited(self, operands_finite: bool) -> Bitrate
+        ensures { λ r. ⌜ r ≡ Rate.limited «operands_finite» self ⌝ }
+    {
+        if operands_finite {
+            if self.bps > Bitrate::MOST.bps {
+                return Bitrate::MOST;
+            }
         }
+        self
     }
 
     // Div<f64>
@@ -265,6 +282,15 @@ impl Bitrate {
     {
         self.bps >= other.bps
     }
+}
+
+fn are_finite(a: f64, b: f64) -> bool
+    ensures { λ r. ⌜ r ≡ (finite a && finite b) ⌝ }
+{
+    if float::is_finite(a) {
+        return float::is_finite(b);
+    }
+    false
 }
 
 // n units as a rate, where that is a whole number that fits a u64.

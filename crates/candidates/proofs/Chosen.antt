@@ -1,12 +1,10 @@
--- The choice among the candidates is not refused, and the rate of what it chooses is not negative. And where any choice is not refused, no candidate's
--- objective was. Assumes nothing.
+-- The choice among the candidates is not refused, and the rate of what it chooses is not negative and at most 10^15. And where any choice is not
+-- refused, no candidate's objective was. Assumes nothing.
 use Prim.Native.Nat.{ℕ}
 use mathlib.Core.Path.{_≡_, refl}
 use mathlib.Core.List.{List}
-use lib.Dec.{T}
 use lib.ListN.{take}
 use lib.Ieee.{Float, lt}
-use lib.Ieee.Scale.{finite}
 use Rattle.float.proofs.Each.{Each, each-take, each-fold, each-of-fold}
 use Rattle.float.proofs.Refusal.{either, checked, passed}
 use Rattle.bandwidth.proofs.NotNegativeRate.{HoldsRate}
@@ -34,23 +32,24 @@ module _ (rows : List Row) (ratio : Float) (sent : Each SentRow rows) where
   unfolding Choice.better Choice.judged newton
   better-good b p g n =
       let stepped = newton rows p in
-      let o = objective-taken stepped n (feasible-not-nan _) rows ratio sent in
+      let o = objective-taken stepped (n .forward) (feasible-not-nan _) rows ratio sent in
       checked Good (b .refusal)
       (λ e. checked Good (objective rows ratio stepped .refusal)
       (λ e. either Good (lt (b .«objective_max») (objective rows ratio stepped .value)) _ b (record { taken = refl; fair = n }) g)
       (λ r. absurd (r o)))
       (λ r. absurd (r (g .taken)))
 
--- both hold for rows of rates of binary64, where the current rate is finite and not negative, and the two estimates are not negative where they are finite
+-- both hold for rows of rates of binary64, where the current rate is not negative and at most 10^15, and the two estimates are so where they are
+-- finite
 pub chosen :
     (current : ChannelParameters) (b : Bounds) (rows : List Row) (ratio : Float) →
-    Fair current → T (finite (current .«loss_limited_bandwidth» .bps)) →
-    FairWhereFinite (b .«delay_based_estimate») → FairWhereFinite (b .«acknowledged_bitrate») → HoldsRate (upperBound b) → Each SentRow rows →
+    Fair current → FairWhereFinite (b .«delay_based_estimate») → FairWhereFinite (b .«acknowledged_bitrate») → HoldsRate (upperBound b) →
+    Each SentRow rows →
     let choice = Choice.choice current (Candidate.candidates current b) rows ratio in (choice .refusal ≡ 0) × Fair (choice .best)
 unfolding Choice.choice Choice.answered
-chosen current b rows ratio n f d a u sent =
+chosen current b rows ratio n d a u sent =
     let used = Choice.used (Candidate.candidates current b .count) in
-    let fair = each-take used (candidates-fair current b n f d a u) in
+    let fair = each-take used (candidates-fair current b n d a u) in
     let g = each-fold Good (Choice.better rows ratio) (better-good rows ratio sent) (Choice.start current) (record { taken = refl; fair = n }) fair in
     rw (g .taken) (refl, g .fair)
 

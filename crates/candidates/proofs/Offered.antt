@@ -1,16 +1,16 @@
--- The candidates' rates are not negative, and their upper bound is a float of binary64. Assumes nothing.
+-- The candidates' rates are not negative and at most 10^15, and their upper bound is a float of binary64. Assumes nothing.
 use mathlib.Core.Bool.{Bool, true, false, _&&_}
 use lib.Dec.{T}
-use lib.Ieee.{Float, binary64, lt, ofBits}
-use lib.Ieee.Fits.{and-l, add-fits}
+use lib.Ieee.{Float, lt, ofBits}
+use lib.Ieee.Fits.{and-l}
 use lib.Ieee.Scale.{finite}
 use Rattle.float.proofs.Each.{Each, none, more, each-append, each-take, each-replicate, each-map}
-use Rattle.float.proofs.Extremes.{minimum-by}
-use Rattle.float.proofs.NotNegative.{upward, NotNegative, maximum-not-negative, mul-not-negative}
+use Rattle.float.proofs.NotNegative.{upward, maximum-not-negative}
 use Rattle.float.proofs.Refusal.{either}
-use Rattle.bandwidth.specs.Rate.{smaller, larger, times, plus}
+use Rattle.bandwidth.specs.Rate.{rate, larger, times}
 use Rattle.bandwidth.specs.declared.Bitrate.{Bitrate}
-use Rattle.bandwidth.proofs.NotNegativeRate.{HoldsRate, NotNegativeRate, smaller-holds}
+use Rattle.bandwidth.proofs.NotNegativeRate.{HoldsRate, smaller-holds}
+use Rattle.bandwidth.proofs.Limited.{LimitedRate, limited-finite, limited-kept, times-limited, plus-holds, smaller-limited}
 use Rattle.time.specs.Time.{isExact}
 use Rattle.config.specs.Config.{«bandwidth_backoff_lower_bound_factor»}
 use Rattle.likelihood.specs.declared.ChannelParameters.{ChannelParameters}
@@ -24,62 +24,61 @@ use Rattle.candidates.specs.declared.Bounds.{Bounds}
 pub bound-holds :
     (b : Bounds) → HoldsRate (b .capacity) → HoldsRate (b .«bandwidth_limit_in_current_window») → HoldsRate (b .«instant_upper_bound») →
     HoldsRate (b .«delay_based_estimate») → HoldsRate (upperBound b)
-unfolding upperBound atMost inWindow plus
+unfolding upperBound atMost inWindow
 bound-holds b capacity window instant delay =
     let limited = b .«is_limited» && finite (b .«bandwidth_limit_in_current_window» .bps) in
     let within = either HoldsRate limited _ _ (smaller-holds _ (b .capacity) window capacity) capacity in
     let least = smaller-holds (b .«instant_upper_bound») (inWindow b) instant within in
     either HoldsRate (finite (b .«acknowledged_bitrate» .bps) && isExact (b .«last_send_time») && isExact (b .«last_time_estimate_reduced»)) _ _
-    (add-fits binary64 _ _) (either HoldsRate (finite (b .«delay_based_estimate» .bps)) _ _ (smaller-holds _ (b .«delay_based_estimate») least delay) least)
+    (plus-holds _ _) (either HoldsRate (finite (b .«delay_based_estimate» .bps)) _ _ (smaller-holds _ (b .«delay_based_estimate») least delay) least)
 
 -- ---- the candidates
 
--- the rate is not negative
+-- the rate is not negative and at most 10^15
 abbrev pub Fair : ChannelParameters → Type 0
-Fair c = NotNegativeRate (c .«loss_limited_bandwidth»)
+Fair c = LimitedRate (c .«loss_limited_bandwidth»)
 
 -- so it is where it is finite
 abbrev pub FairWhereFinite : Bitrate → Type 0
-FairWhereFinite r = T (finite (r .bps)) → NotNegativeRate r
+FairWhereFinite r = T (finite (r .bps)) → LimitedRate r
 
-each-only : (wanted : Bool) (r : Bitrate) → (T wanted → NotNegativeRate r) → Each NotNegativeRate (only wanted r)
+each-only : (wanted : Bool) (r : Bitrate) → (T wanted → LimitedRate r) → Each LimitedRate (only wanted r)
 each-only true r n = more (n tt) none
 each-only false r n = none
 
-module _ (current delay acknowledged : Bitrate) (n : NotNegativeRate current) (f : T (finite (current .bps)))
-    (d : FairWhereFinite delay) (a : FairWhereFinite acknowledged) where
-  scaled-forward : (factor : Float) → T (finite factor) → T (upward factor) → NotNegativeRate (scaled factor current)
-  unfolding scaled times
-  scaled-forward factor g u = mul-not-negative factor (current .bps) g u f (n .above)
+module _ (current delay acknowledged : Bitrate) (n : LimitedRate current) (d : FairWhereFinite delay) (a : FairWhereFinite acknowledged) where
+  scaled-limited : (factor : Float) → T (finite factor) → T (upward factor) → LimitedRate (scaled factor current)
+  unfolding scaled
+  scaled-limited factor g u = times-limited (rate factor) (current .bps) g u (limited-finite current n) (n .forward .above)
 
-  times-forward : (r : Bitrate) → FairWhereFinite r → T (finite (r .bps)) → NotNegativeRate (times r «bandwidth_backoff_lower_bound_factor»)
-  unfolding times ofBits
-  times-forward r k g = mul-not-negative (r .bps) «bandwidth_backoff_lower_bound_factor» g (k g .above) tt tt
+  backoff-limited : (r : Bitrate) → FairWhereFinite r → T (finite (r .bps)) → LimitedRate (times r «bandwidth_backoff_lower_bound_factor»)
+  unfolding ofBits
+  backoff-limited r k g = times-limited r «bandwidth_backoff_lower_bound_factor» g (k g .forward .above) tt tt
 
   valid : T (above delay current) → T (finite (delay .bps))
   unfolding above
   valid h = and-l (finite (delay .bps)) (lt (current .bps) (delay .bps)) h
 
-  bandwidths-forward : Each NotNegativeRate (bandwidths current delay acknowledged)
+  bandwidths-limited : Each LimitedRate (bandwidths current delay acknowledged)
   unfolding bandwidths ofBits
-  bandwidths-forward =
+  bandwidths-limited =
       each-append
       (each-append
       (each-append
-      (more (scaled-forward _ tt tt) (more (scaled-forward _ tt tt) (more (scaled-forward _ tt tt) none)))
+      (more (scaled-limited _ tt tt) (more (scaled-limited _ tt tt) (more (scaled-limited _ tt tt) none)))
       (each-only (above delay current) delay (λ h. d (valid h))))
-      (each-only (finite (acknowledged .bps)) _ (times-forward acknowledged a)))
-      (each-only (above delay current) _ (λ h. times-forward delay d (valid h)))
+      (each-only (finite (acknowledged .bps)) _ (backoff-limited acknowledged a)))
+      (each-only (above delay current) _ (λ h. backoff-limited delay d (valid h)))
 
--- so is each, where the current rate is finite and not negative, and the two estimates are not negative where they are finite
+-- so is each, where the current rate is so, and the two estimates are where they are finite
 pub candidates-fair :
-    (current : ChannelParameters) (b : Bounds) → Fair current → T (finite (current .«loss_limited_bandwidth» .bps)) →
-    FairWhereFinite (b .«delay_based_estimate») → FairWhereFinite (b .«acknowledged_bitrate») →
-    HoldsRate (upperBound b) → Each Fair (candidates current b .places)
-unfolding candidates placed candidate cut smaller larger
-candidates-fair current b n f d a u =
+    (current : ChannelParameters) (b : Bounds) → Fair current → FairWhereFinite (b .«delay_based_estimate») →
+    FairWhereFinite (b .«acknowledged_bitrate») → HoldsRate (upperBound b) → Each Fair (candidates current b .places)
+unfolding candidates placed candidate cut larger
+candidates-fair current b n d a u =
     each-take 6
     (each-append
-    (each-map Fair (candidate current (upperBound b)) (λ r k. minimum-by NotNegative (r .bps) _ (λ h. k) (maximum-not-negative (upperBound b .bps) n u))
-    (bandwidths-forward (current .«loss_limited_bandwidth») (b .«delay_based_estimate») (b .«acknowledged_bitrate») n f d a))
+    (each-map Fair (candidate current (upperBound b))
+    (λ r k. limited-kept _ _ (smaller-limited r _ k (maximum-not-negative (upperBound b .bps) (n .forward) u)))
+    (bandwidths-limited (current .«loss_limited_bandwidth») (b .«delay_based_estimate») (b .«acknowledged_bitrate») n d a))
     (each-replicate Fair 6 current n))

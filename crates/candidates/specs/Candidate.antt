@@ -4,7 +4,7 @@ use mathlib.Core.List.{List, [], _∷_, _++_, map}
 use lib.ListN.{length, replicate, take}
 use lib.Ieee.{Float, lt}
 use lib.Ieee.Scale.{finite}
-use Rattle.bandwidth.specs.Rate.{rate, smaller, larger, times}
+use Rattle.bandwidth.specs.Rate.{rate, smaller, larger, limited, times}
 use Rattle.bandwidth.specs.declared.Bitrate.{Bitrate}
 use Rattle.config.specs.Config.{«candidate_factor_up», «candidate_factor_same», «candidate_factor_down», «bandwidth_backoff_lower_bound_factor»}
 use Rattle.likelihood.specs.Feasible.{feasible}
@@ -38,9 +38,10 @@ bandwidths current delay acknowledged =
 
 -- ---- their parameters
 
--- "cut to the larger of current rate and bound"
+-- "cut to the larger of current rate and bound"; "each candidate becomes 10^15 bit/s when its operands are finite and the result is larger" (Q-5):
+-- its operand is the rate that it is made of, and an infinite bound, being absent, cuts nothing, as before
 unfoldable pub cut : Bitrate → Bitrate → Bitrate → Bitrate
-cut current bound bandwidth = smaller bandwidth (larger current bound)
+cut current bound bandwidth = limited (finite (bandwidth .bps)) (smaller bandwidth (larger current bound))
 
 -- "then its inherent loss made feasible"; it is the current one
 unfoldable pub candidate : ChannelParameters → Bitrate → Bitrate → ChannelParameters

@@ -7,7 +7,7 @@ use mathlib.Core.List.{List, [], _∷_, map}
 use lib.Ieee.{Float, inf, add, div, isNan, lt, mul, ofBits, ofInt}
 use Rattle.float.specs.Rounded.{bits}
 use Rattle.float.specs.Rust.{minimum, maximum}
-use Rattle.bandwidth.specs.Rate.{rate, smaller, larger, plus, times}
+use Rattle.bandwidth.specs.Rate.{rate, mostRate, smaller, larger, limited, plus, times}
 use Rattle.bandwidth.specs.declared.Bitrate.{Bitrate}
 use Rattle.bandwidth.specs.declared.OptionBitrate.the-variants.{Some, None}
 use Rattle.duration.specs.Seconds.{seconds}
@@ -77,7 +77,7 @@ bounds-without-acknowledged = (refl, refl, refl)
 bounds-with-acknowledged :
     bound false two one (Exact 10000000007) (Exact 20000000000) ≡ two
     × bound false two one (Exact 10000000007) DistantPast ≡ two
-unfolding bound upperBound inWindow acceleration atMost plus smaller times seconds Delta.difference Delta.inSeconds Delta.larger Delta.order
+unfolding bound upperBound inWindow acceleration atMost limited plus smaller times seconds Delta.difference Delta.inSeconds Delta.larger Delta.order
     Time.since minimum add div isNan lt mul ofBits ofInt
 bounds-with-acknowledged = (refl, refl)
 
@@ -101,15 +101,39 @@ candidate-rates :
     × rates one half two one ≡ one ∷ one ∷ rate (bits 0x412CFDE000000000) ∷ one ∷ one ∷ one ∷ []
     × rates one three one one ≡ rate (bits 0x412F20C000000000) ∷ one ∷ rate (bits 0x412CFDE000000000) ∷ one ∷ []
     × rates one three infinite infinite ≡ rate (bits 0x412F20C000000000) ∷ one ∷ rate (bits 0x412CFDE000000000) ∷ []
-unfolding rates above bandwidths cut scaled larger smaller times maximum minimum isNan lt mul ofBits
+unfolding rates above bandwidths cut limited scaled larger smaller times maximum minimum isNan lt mul ofBits
 candidate-rates = (refl, refl, refl, refl)
 
 -- 123,456.7 bit/s: each product is rounded once
 rounded-rates :
     rates (rate (bits 0x40FE240B33333333)) three infinite infinite ≡
     rate (bits 0x40FEBE5D5810624E) ∷ rate (bits 0x40FE240B33333333) ∷ rate (bits 0x40FCA23DD70A3D70) ∷ []
-unfolding rates above bandwidths cut scaled larger smaller times maximum minimum isNan lt mul ofBits
+unfolding rates above bandwidths cut limited scaled larger smaller times maximum minimum isNan lt mul ofBits
 rounded-rates = refl
+
+-- ---- the limit of 10^15 bit/s (Q-5)
+
+abbrev huge : Bitrate
+huge = rate (bits 0x7E37E43C8800759C)
+
+-- at the limit the raised rate is the current one; 1.02 times 9.9 × 10^14 passes it; a current rate beyond it, which no setter takes, comes down to it;
+-- delay estimate and acknowledged rate of 10^300, which none takes either, and no bound
+limited-rates :
+    rates mostRate infinite infinite infinite ≡ mostRate ∷ mostRate ∷ rate (bits 0x430B0028E44B0000) ∷ []
+    × rates (rate (bits 0x430C2332B29F0000)) infinite infinite infinite ≡
+    mostRate ∷ rate (bits 0x430C2332B29F0000) ∷ rate (bits 0x430ABB09C34A4000) ∷ []
+    × rates huge infinite infinite infinite ≡ mostRate ∷ mostRate ∷ mostRate ∷ []
+    × rates one infinite huge huge ≡ rate (bits 0x412F20C000000000) ∷ one ∷ rate (bits 0x412CFDE000000000) ∷ mostRate ∷ mostRate ∷ mostRate ∷ []
+unfolding rates above bandwidths cut limited scaled larger smaller times maximum minimum isNan lt mul ofBits
+limited-rates = (refl, refl, refl, refl)
+
+-- the rate that a candidate is made of, and what cuts it: a bound below the limit and one beyond it cut as before; made of an infinite rate it is as
+-- before, beyond the limit too
+limited-cuts :
+    cut one two huge ∷ cut one huge huge ∷ cut (rate (inf true)) huge huge ∷ [] ≡ two ∷ mostRate ∷ mostRate ∷ []
+    × cut one huge infinite ∷ cut infinite two infinite ∷ [] ≡ huge ∷ infinite ∷ []
+unfolding cut limited larger smaller maximum minimum isNan lt ofBits
+limited-cuts = (refl, refl)
 
 -- ---- the choice
 

@@ -167,7 +167,8 @@ fn is_above(delay_based_estimate: Bitrate, current: Bitrate) -> bool
     false
 }
 
-// Every candidate is made here: its bandwidth cut, its inherent loss made feasible.
+// Every candidate is made here: its bandwidth cut and limited, its inherent loss made feasible. An
+// infinite bound is an absent one, and cuts nothing.
 fn candidate(
     current: ChannelParameters,
     upper_bound: Bitrate,
@@ -176,8 +177,9 @@ fn candidate(
     ensures { λ r. ⌜ r ≡ Candidate.candidate current «upper_bound» bandwidth ⌝ }
 {
     let limit = current.loss_limited_bandwidth.max(upper_bound);
+    let cut = bandwidth.min(limit);
     let mut candidate = current;
-    candidate.loss_limited_bandwidth = bandwidth.min(limit);
+    candidate.loss_limited_bandwidth = cut.limited(bandwidth.is_valid());
     let inherent_loss = likelihood::get_feasible_inherent_loss(candidate);
     candidate.inherent_loss = inherent_loss;
     candidate

@@ -18,7 +18,7 @@ use Rattle.estimator.specs.Hold as Hold
 use Rattle.estimator.specs.Recovery as Recovering
 use Rattle.estimator.specs.Increase as Increase
 use Rattle.estimator.specs.Update as Update
-use Rattle.estimator.specs.declared.LossControllerState.the-variants.{DelayBased}
+use Rattle.estimator.specs.declared.LossControllerState.the-variants.{Decreasing, DelayBased}
 use Rattle.estimator.specs.declared.Estimator.{Estimator}
 use Rattle.estimator.specs.declared.EstimatorAnswer.{EstimatorAnswer}
 
@@ -102,17 +102,43 @@ run-examples :
     ∷ (0 ∷ 0x412B774000000000 ∷ 0 ∷ 300000000 ∷ 0x7FF0000000000000 ∷ 2200000000 ∷ 2200000000 ∷ 0x4123D62000000000 ∷ [])
     ∷ []
 unfolding add div eq isNan le lt mul ofBits ofInt toBits minimum maximum ordered seconds nearestNanos fromSeconds Rate.larger Rate.smaller
-    Rate.times Rate.plus Nanos.fitted Time.plus Time.order Hold.twice Hold.doubled Hold.entered Recovering.windowEnd Recovering.isAboveLimit
+    Rate.limited Rate.times Rate.plus Nanos.fitted Time.plus Time.order Hold.twice Hold.doubled Hold.entered Recovering.windowEnd Recovering.isAboveLimit
     Recovering.bounded Recovering.isOver Recovering.opened Recovering.renewed Increase.notIncreasedAboveInherentLoss
     Increase.isEstimateIncreasingWhenLossLimited Increase.rampupFactor Increase.withinRampup Increase.rampedUp Increase.increaseLimitedDueToLoss
     Increase.increaseLimited Update.withReductionNoted Update.isInHold Update.held Update.isLimiting Update.newState Update.newHoldInfo
     Update.withNewState Update.decided Update.updated Update.applied nanos view report started run
 run-examples = refl
 
+-- Decreasing at this rate, with no hold and no window
+decreasing : ℕ → Estimator
+decreasing rate =
+    record {
+      state = Decreasing;
+      «current_estimate» = record { «inherent_loss» = bits 0x3F847AE147AE147B; «loss_limited_bandwidth» = Rate.rate (bits rate) };
+      «last_hold_info» = Hold.initial;
+      «last_time_estimate_reduced» = DistantPast;
+      recovery = Recovering.initial;
+    }
+
+-- the limit of 10^15 (Q-5), which 1.02 times the rate is cut to: at it nothing rises, so that Decreasing stays; from 0.5 below it, with 1 bit/s
+-- acknowledged, 1 bit/s more is cut to it, and is an increase. The limit of the window that opens, 1.3 times the rate, is cut too
+limit-examples :
+    view (report 0x430C6BF526340000 0 0x3FF0000000000000 0x7FF0000000000000 1000000000 (decreasing 0x430C6BF526340000)) ≡
+    2 ∷ 0x430C6BF526340000 ∷ 0 ∷ 300000000 ∷ 0x7FF0000000000000 ∷ 0 ∷ 1000000000 ∷ 0x430C6BF526340000 ∷ []
+    × view (report 0x430C6BF526340000 0 0x3FF0000000000000 0x7FF0000000000000 1000000000 (decreasing 0x430C6BF52633FFFC)) ≡
+    1 ∷ 0x430C6BF526340000 ∷ 0 ∷ 300000000 ∷ 0x7FF0000000000000 ∷ 0 ∷ 1000000000 ∷ 0x430C6BF526340000 ∷ []
+unfolding add div eq isNan le lt mul ofBits ofInt toBits minimum maximum ordered seconds Rate.larger Rate.smaller
+    Rate.limited Rate.times Rate.plus Nanos.fitted Time.plus Time.order Recovering.windowEnd Recovering.isAboveLimit
+    Recovering.bounded Recovering.isOver Recovering.opened Recovering.renewed Increase.notIncreasedAboveInherentLoss
+    Increase.isEstimateIncreasingWhenLossLimited Increase.rampupFactor Increase.withinRampup Increase.rampedUp Increase.increaseLimitedDueToLoss
+    Increase.increaseLimited Update.withReductionNoted Update.isInHold Update.isLimiting Update.newState Update.newHoldInfo
+    Update.withNewState Update.decided Update.updated Update.applied nanos view report decreasing
+limit-examples = (refl, refl)
+
 -- a hold entered at the last instant would end at none: refused, and unchanged, though the rate is a reduction
 refused-example :
     answer 0x4121652000000000 0x3FB999999999999A 0x411E848000000000 0x412E848000000000 (2 ^ 64 - 1) started ≡ Update.unchanged started 7
-unfolding add isNan eq le lt mul ofBits maximum ordered Rate.larger Rate.times Nanos.fitted Time.plus Time.order Hold.entered Recovering.windowEnd
+unfolding add isNan eq le lt mul ofBits maximum ordered Rate.larger Rate.limited Rate.times Nanos.fitted Time.plus Time.order Hold.entered Recovering.windowEnd
     Recovering.isOver Recovering.opened Recovering.renewed Increase.notIncreasedAboveInherentLoss Increase.isEstimateIncreasingWhenLossLimited
     Increase.increaseLimited Update.withReductionNoted Update.isInHold Update.isLimiting Update.newState Update.newHoldInfo Update.withNewState
     Update.decided Update.updated Update.applied answer started

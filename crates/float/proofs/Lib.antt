@@ -9,3 +9,4 @@ pub mod Each
 pub mod Extremes
 pub mod NotNan
 pub mod NotNegative
+pub mod AtMost

@@ -1,9 +1,8 @@
 -- Worked examples of the definitions beside this file, which antt computes; the answers are the oracle's: those of the Rust with the edits that
 -- oracle/README.md lists. They test the definitions; no proof cites them.
-use Prim.Native.Nat.{ℕ, _^_}
+use Prim.Native.Nat.{ℕ}
 use mathlib.Core.Path.{_≡_, refl}
 use mathlib.Core.List.{List, [], _∷_, map}
-use lib.IntN.{pos}
 use lib.Ieee.{binary64, add, div, eq, inFloat, isNan, le, lt, mul, ofBits, ofInt, sub, toBits}
 use lib.ListN.{replicate}
 use Rattle.float.specs.Rounded.{bits}
@@ -48,10 +47,6 @@ use Rattle.loss_controller.specs.declared.LossController.{LossController
 use Rattle.loss_controller.specs.declared.ControllerAnswer.{ControllerAnswer}
 
 -- ---- codes 2 and 3
-
-ten-to-15 : Setters.mostRate ≡ ofInt binary64 (pos (10 ^ 15))
-unfolding ofBits ofInt
-ten-to-15 = refl
 
 -- 0, 10^15, the next float, infinity, a NaN; -0.0, -1.0, minus infinity
 rates :
@@ -146,7 +141,8 @@ afterReport delay c times sizes flags = Report.updateBandwidthEstimate c times s
 
 -- 3 Mbit/s from the delay controller, 9,000 of 70,200 bytes lost in 0.3 s: Decreasing, and the ceiling is published.
 -- 8,200 bit/s estimated and from the delay controller, 150 of 1,000 bytes lost in 1 s: Decreasing, and a twentieth less is published, where the
--- Rust's grouping of the bias would keep it (examples/grouping_keeps_8200_bit.txt, Q-9)
+-- Rust's grouping of the bias would keep it (examples/grouping_keeps_8200_bit.txt, Q-9).
+-- 10^15 bit/s estimated, no delay estimate, 2,000 bytes and no loss: 10^15 is published, where the Rust publishes 1.02 × 10^15 (Q-5)
 decreasing :
     line (afterReport 0x4146E36000000000 (afterReport 0x4146E36000000000 told (0 ∷ []) (1200 ∷ []) (0 ∷ []))
     (300000000 ∷ 300000001 ∷ []) (60000 ∷ 9000 ∷ []) (0 ∷ 1 ∷ [])) ≡
@@ -154,6 +150,9 @@ decreasing :
     × line (afterReport 0x40C0040000000000 (afterReport 0x40C0040000000000 (estimated 0x40C0040000000000) (0 ∷ []) (850 ∷ []) (0 ∷ []))
     (1000000000 ∷ []) (150 ∷ []) (1 ∷ [])) ≡
     2 ∷ 4584625288427029704 ∷ 1 ∷ 4665287210281467904 ∷ []
+    × line (afterReport 0x7FF0000000000000 (afterReport 0x7FF0000000000000 (estimated 0x430C6BF526340000) (0 ∷ []) (1000 ∷ []) (0 ∷ []))
+    (250000001 ∷ []) (1000 ∷ []) (0 ∷ [])) ≡
+    2 ∷ 4562254508917369340 ∷ 1 ∷ 0x430C6BF526340000 ∷ []
 unfolding line Bias.adjusted Bias.bias Feasible.upperBound Feasible.feasible Newton.safe Newton.addDerivatives Newton.derivatives Newton.newton
     Objective.addTerms Objective.objective Probability.congested Probability.probability Ln.logarithmOfBits Ln.logarithm Power.powerSteps Power.power
     Power.weight Bound.atMost Bound.capacity Bound.inWindow Bound.acceleration Bound.upperBound Candidate.scaled Candidate.above Candidate.bandwidths
@@ -165,10 +164,10 @@ unfolding line Bias.adjusted Bias.bias Feasible.upperBound Feasible.feasible New
     Delta.order Delta.rate Delta.larger Delta.plus Time.since Time.plus Time.order Nanos.fitted Ratio.age Ratio.window Ratio.readable
     Ratio.averageReportedLossRatio Ratio.instantLimit Ratio.instantUpperBound Ratio.validOrMax Ratio.cached Rows.rowOf Rows.rows Window.cleared
     Window.reference Window.completes Window.full Window.observed Window.stored Window.withCeiling Window.withPartial Window.renewed Window.completed
-    Window.added Partial.updated Rate.over Rate.smaller Rate.larger Rate.times Rate.plus Rate.minus Size.kilobytes Size.float Fitted.ordered
+    Window.added Partial.updated Rate.over Rate.smaller Rate.larger Rate.limited Rate.times Rate.plus Rate.minus Size.kilobytes Size.float Fitted.ordered
     Fitted.fitted Fitted.inI64 Seconds.seconds Seconds.nearestNanos Seconds.fromSeconds Loss.lossRatio Loss.lossCeiling Answer.clamped Report.bounds
     Report.report Report.updatedEstimator Report.hasValidEstimate Report.observed Report.withDelayBasedEstimate Report.reported
     Report.updateBandwidthEstimate Setters.rateRefusal Setters.setBandwidthEstimate Setters.setAcknowledgedBitrate columnsRefusal packets
     packetRefusal addPacket summaryOf withObservations withEstimator withInputs maximum minimum signBit add div eq inFloat isNan le lt mul ofBits
     ofInt sub toBits Rattle.float.specs.Rust.magnitude
-decreasing = (refl, refl)
+decreasing = (refl, refl, refl)

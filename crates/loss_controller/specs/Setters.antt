@@ -2,11 +2,11 @@
 use Prim.Native.Nat.{ℕ}
 use mathlib.Core.Bool.{Bool, true, false, cond, Bool·beq, _&&_, _||_}
 use lib.Dec.{leb}
-use lib.Ieee.{Float, lt}
+use lib.Ieee.{lt}
 use lib.Ieee.Scale.{finite}
 use Rattle.float.specs.Rounded.{bits}
 use Rattle.float.specs.Rust.{signBit}
-use Rattle.bandwidth.specs.Rate.{rate}
+use Rattle.bandwidth.specs.Rate.{rate, mostRate}
 use Rattle.bandwidth.specs.declared.Bitrate.{Bitrate}
 use Rattle.bandwidth.specs.declared.OptionBitrate.{OptionBitrate}
 use Rattle.bandwidth.specs.declared.OptionBitrate.the-variants.{Some, None}
@@ -24,13 +24,9 @@ rateOf n = rate (bits n)
 
 -- ---- the codes
 
--- 10^15
-abbrev pub mostRate : Float
-mostRate = bits 0x430C6BF526340000
-
 -- "2: a finite rate with sign bit set (negative zero too) or above 10^15. Non-finite rates are taken."
 unfoldable pub rateRefusal : Bitrate → ℕ
-rateRefusal r = cond (finite (r .bps) && (signBit (r .bps) || lt mostRate (r .bps))) 2 0
+rateRefusal r = cond (finite (r .bps) && (signBit (r .bps) || lt (mostRate .bps) (r .bps))) 2 0
 
 unfoldable pub capacityRefusal : OptionBitrate → ℕ
 capacityRefusal (Some r) = rateRefusal r

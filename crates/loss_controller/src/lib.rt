@@ -17,9 +17,6 @@ use observation::Observations;
 use packets::PacketResultsSummary;
 use packets::PacketSize;
 
-// The highest rate that is taken, 10^15 bit/s
-const MOST_RATE: Bitrate = Bitrate { bps: 1.0e15 };
-
 // Option<Instant>
 pub enum OptionInstant {
     Some(u64),
@@ -94,7 +91,7 @@ pub fn rate_refusal(rate: Bitrate) -> u8
     if float::is_sign_negative(rate.bps) {
         return 2;
     }
-    if rate.gt(MOST_RATE) {
+    if rate.gt(Bitrate::MOST) {
         return 2;
     }
     0

@@ -5,26 +5,18 @@ use mathlib.Core.Bool.{true, false}
 use native.Mathlib.Omega.{arith}
 use borrow.Author.Tests.{ltb-true, eqb-false}
 use lib.Dec.{T}
-use lib.Ieee.{Float, nan, inf, fin, binary64, isNan, add, sub, div, neg, eq, lt}
+use lib.Ieee.{Float, nan, inf, fin, binary64, add, sub, div, neg, eq, lt}
 use lib.Ieee.Fits.{div-fits}
 use lib.Ieee.Positive.{num, den}
 use lib.Ieee.Scale.{finite}
 use Rattle.float.specs.Rounded.{_⊖_, _⊘_, bits}
-use Rattle.float.specs.Rust.{minimum}
 use Rattle.float.proofs.NotNegative.{upward, NotNegative, inf-not-negative, round-not-negative, above-upward}
-use Rattle.float.proofs.Refusal.{either}
 use Rattle.rounding.specs.Plain.{plain}
 use Rattle.rounding.proofs.Operations.{sub-is, div-is, lt-is, eq-zero}
 
 -- a finite one is plain
 pub upward-plain : (x : Float) → T (upward x) → T (finite x) → T (plain x)
 upward-plain (fin s m e) u f = u
-
--- the smaller of a plain float and one with the sign clear is plain
-pub minimum-plain : (x y : Float) → T (plain x) → T (upward y) → T (plain (minimum x y))
-unfolding minimum isNan lt
-minimum-plain (fin s m e) (inf false) p u = p
-minimum-plain (fin s m e) (fin t n d) p u = either (λ (z : Float). T (plain z)) (lt (fin t n d) (fin s m e)) _ _ u p
 
 plain-sub : (x y : Float) → T (plain x) → T (plain y) → lt y x ≡ true → NotNegative (x ⊖ y)
 plain-sub x y p q l =
