@@ -2,8 +2,8 @@
 """refute.py [EDIT..]: for each must-fail edit of crate history, or for those named, that the edited claims are false.
 Under the edit, the tests of the claims (crates/history/proofs/Tested.antt, which proves that the claims make them true)
 are computed on the list that the edit names as 'list NAME' (crates/history/proofs/Sample.antt), and from a false test the
-negation of the edited claims is proved: of Unrefused1, of RatioAtMostOne and Never6 together, or of Demand3 and Refusals2
-together. Works on a copy under target/refute; the crates below history are taken as they were proved last.
+negation of the edited claims is proved: of Unrefused1, of RatioAtMostOne and Never6 together, of StaysFinite and AtMost
+together, or of Demand3 and Refusals2 together. Works on a copy under target/refute; the crates below history are taken as they were proved last.
 Exit status 1 if an edit is not refuted; one that names no list is not, unless it stands in NOT_COMPUTED."""
 import os
 import re
@@ -24,7 +24,8 @@ use Rattle.history.specs.Demand.{Demand3}
 use Rattle.history.specs.Refusals.{Refusals2}
 use Rattle.history.specs.Unrefused.{Unrefused1}
 use Rattle.history.specs.Unreached.{RatioAtMostOne, Never6}
-use Rattle.history.proofs.Tested.{outcome-met, untraced-met, unreached-met}
+use Rattle.history.specs.Finite.{StaysFinite, AtMost}
+use Rattle.history.proofs.Tested.{outcome-met, untraced-met, unreached-met, unescaped-met}
 """
 
 REFUTED = {
@@ -48,6 +49,13 @@ false-here = refl
 
 refuted : RatioAtMostOne → Never6 → ⊥
 refuted r n = true≢false (sym (unreached-met r n {calls}) ∙ false-here)
+""",
+    "unescaped": """false-here : unescaped {calls} ≡ false
+{unfolding}
+false-here = refl
+
+refuted : StaysFinite → AtMost → ⊥
+refuted s m = true≢false (sym (unescaped-met s m {calls}) ∙ false-here)
 """,
 }
 
@@ -75,9 +83,9 @@ def fresh_copy():
 def keep_the_claims_alone(list_name):
     """The proofs but for Tested and Sample go, and of Sample all but the named list, on which its test is false."""
     sample = read(crate + "/proofs/Sample.antt")
-    named = re.search(rf"^{list_name} :\s+(outcome|untraced|unreached) (.*?) ≡\s+(?:record|true).*?\n(unfolding [^\n]*)\n", sample, re.M | re.S)
+    named = re.search(rf"^{list_name} :\s+(outcome|untraced|unreached|unescaped) (.*?) ≡\s+(?:record|true).*?\n(unfolding [^\n]*)\n", sample, re.M | re.S)
     test, calls, unfolding = named.groups()
-    head = sample[: re.search(r"^(--.*\n)?\S+ :\s+(outcome|untraced|unreached)", sample, re.M).start()]
+    head = sample[: re.search(r"^(--.*\n)?\S+ :\s+(outcome|untraced|unreached|unescaped)", sample, re.M).start()]
     for name in os.listdir(crate + "/proofs"):
         if name != "Tested.antt":
             os.remove(f"{crate}/proofs/{name}")

@@ -5,15 +5,15 @@ use mathlib.Core.Bool.{cond}
 use native.Mathlib.Omega.{arith}
 use borrow.Author.Tests.{ne-eqb}
 use lib.Dec.{T, eqb}
-use lib.Ieee.{Float}
 use lib.Ieee.Scale.{finite}
 use Rattle.float.proofs.Refusal.{either, tested}
 use Rattle.rounding.specs.Plain.{plain}
-use Rattle.rounding.proofs.Upward.{upward-plain, minimum-plain}
+use Rattle.rounding.proofs.Upward.{upward-plain}
 use Rattle.bandwidth.specs.Rate.{smaller}
 use Rattle.bandwidth.specs.declared.Bitrate.{Bitrate}
 use Rattle.bandwidth.specs.declared.OptionBitrate.{OptionBitrate}
 use Rattle.bandwidth.specs.declared.OptionBitrate.the-variants.{Some}
+use Rattle.bandwidth.proofs.Limited.{LimitedRate, limited-finite, smaller-limited}
 use Rattle.candidates.specs.Bound.{atMost}
 use Rattle.observation.specs.Ratio.{cached}
 use Rattle.loss_controller.specs.Result.{published, lossBasedResult, averageReportedLossRatio}
@@ -26,6 +26,10 @@ use Rattle.history.proofs.Weighed.{tied-counted, tied-ratio, tied-ceili
 use Rattle.history.proofs.Reached.{Reached, ceiling-not-negative}
 use Rattle.history.proofs.Step.{reached}
 use Rattle.history.proofs.Under.{minimum-under}
+
+-- a limited rate is finite with its sign clear
+pub limited-plain : (r : Bitrate) → LimitedRate r → T (plain (r .bps))
+limited-plain r l = upward-plain (r .bps) (l .forward .above) (limited-finite r l)
 
 module _ (c : LossController) (h : History) (r : Reached c h) where
   -- ---- a published rate
@@ -40,24 +44,28 @@ module _ (c : LossController) (h : History) (r : Reached c h) where
   ceiling = cached (c .observations .«cached_instant_upper_bound»)
 
   -- the estimate is finite, and it or the smallest of the three is published
-  published-by : (P : Float → Type 0) → (T (finite (own .bps)) → P (cond (eqb (c .observations .«num_observations») 0) own (smaller delayed ceiling) .bps))
-      → (r : Bitrate) → lossBasedResult c .«bandwidth_estimate» ≡ Some r → P (r .bps)
+  published-by : (P : Bitrate → Type 0) → (T (finite (own .bps)) → P (cond (eqb (c .observations .«num_observations») 0) own (smaller delayed ceiling)))
+      → (r : Bitrate) → lossBasedResult c .«bandwidth_estimate» ≡ Some r → P r
   unfolding lossBasedResult published
   published-by P holds r =
       let chosen = cond (eqb (c .observations .«num_observations») 0) own (smaller delayed ceiling) in
-      tested (λ (o : OptionBitrate). o ≡ Some r → P (r .bps)) (finite (own .bps))
-      (λ f e. let same : chosen ≡ r = cc in subst (λ (x : Bitrate). P (x .bps)) same (holds (rw f tt)))
+      tested (λ (o : OptionBitrate). o ≡ Some r → P r) (finite (own .bps))
+      (λ f e. let same : chosen ≡ r = cc in subst P same (holds (rw f tt)))
       (λ f e. let no : _≡_ {A = ℕ} 0 1 = cc in absurd (omega arith))
 
-  own-plain : T (finite (own .bps)) → T (plain (own .bps))
-  own-plain f = upward-plain (own .bps) (r .estimator .rates .current f .above) f
-
-  delayed-plain : T (finite (own .bps)) → T (plain (delayed .bps))
-  unfolding atMost smaller
-  delayed-plain f =
+  delayed-limited : T (finite (own .bps)) → LimitedRate delayed
+  unfolding atMost
+  delayed-limited f =
       let delay = c .inputs .«delay_based_estimate» in
-      tested (λ (x : Bitrate). T (plain (x .bps))) (finite (delay .bps))
-      (λ e. minimum-plain (own .bps) (delay .bps) (own-plain f) (r .inputs .delay .above (rw e tt) .above)) (λ e. own-plain f)
+      let limited = r .estimator .rates .current f in
+      tested LimitedRate (finite (delay .bps)) (λ e. smaller-limited own delay limited (r .inputs .delay .limited (rw e tt) .forward)) (λ e. limited)
+
+  pub published-limited : (r : Bitrate) → lossBasedResult c .«bandwidth_estimate» ≡ Some r → LimitedRate r
+  published-limited =
+      let o = c .observations in
+      published-by LimitedRate
+      (λ f. either LimitedRate (eqb (o .«num_observations») 0) own (smaller delayed ceiling) (r .estimator .rates .current f)
+      (smaller-limited delayed ceiling (delayed-limited f) (ceiling-not-negative o h (r .tied))))
 
   -- ---- the claim
 
@@ -69,13 +77,11 @@ module _ (c : LossController) (h : History) (r : Reached c h) where
       record {
         counted = t .count;
         near = λ some. let ratio = tied-ratio o h t some in record { taken = ratio .0; close = ratio .1 };
-        clear = published-by (λ (x : Float). T (plain x))
-            (λ f. either (λ (x : Bitrate). T (plain (x .bps))) (eqb (o .«num_observations») 0) own (smaller delayed ceiling) (own-plain f)
-            (minimum-plain (delayed .bps) (ceiling .bps) (delayed-plain f) (ceiling-not-negative o h t .above)));
+        clear = λ published e. limited-plain published (published-limited published e);
         capped = λ some six. let set = tied-ceiling o h t some six in
-            published-by (λ (x : Float). UnderLossCeiling x (weighedLost h) (weighedBytes h))
+            published-by (λ (r : Bitrate). UnderLossCeiling (r .bps) (weighedLost h) (weighedBytes h))
             (λ f. rw (ne-eqb (o .«num_observations») 0 (λ z. omega (arith, tied-counted o h t some)), set .0)
-            (minimum-under (set .1) (omega (arith, six)) (delayed .bps) (delayed-plain f)));
+            (minimum-under (set .1) (omega (arith, six)) (delayed .bps) (limited-plain delayed (delayed-limited f))));
       }
 
 -- and every list leaves one

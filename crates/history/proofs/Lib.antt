@@ -12,6 +12,7 @@ pub mod Reached
 pub mod Refusals
 pub mod Unrefused
 pub mod Unreached
+pub mod Finite
 pub mod EveryRate
 mod Tested
 mod Sample

@@ -2,11 +2,10 @@
 -- after a complete observation are not refused. Assumes nothing.
 use Prim.Native.Nat.{ℕ, _*_, _^_, _≤_}
 use mathlib.Core.Path.{_≡_, refl, ap}
-use mathlib.Core.Bool.{Bool, true, false}
+use mathlib.Core.Bool.{Bool, true, false, cond}
 use mathlib.Core.Option.{Option, none, some}
 use native.Mathlib.Omega.{arith}
 use lib.Dec.{T}
-use lib.IntN.{ℤ}
 use lib.Ieee.{Float, nan, inf, fin, binary64}
 use lib.Ieee.Bits.{ofBits-fits}
 use lib.Ieee.Fits.{inf-fits}
@@ -15,12 +14,13 @@ use Rattle.float.specs.Rounded.{bits}
 use Rattle.float.specs.Rust.{signBit}
 use Rattle.float.specs.declared.FloatAnswer.{FloatAnswer}
 use Rattle.float.proofs.Extremes.{minimum-by}
-use Rattle.float.proofs.NotNegative.{Holds, NotNegative, inf-not-negative}
+use Rattle.float.proofs.NotNegative.{Holds, inf-not-negative}
 use Rattle.float.proofs.Refusal.{either, checked as checked-by}
 use Rattle.bandwidth.specs.Rate as Rate
 use Rattle.bandwidth.specs.declared.Bitrate.{Bitrate}
 use Rattle.bandwidth.specs.declared.OptionBitrate.{OptionBitrate}
 use Rattle.bandwidth.proofs.NotNegativeRate.{HoldsRate, NotNegativeRate}
+use Rattle.bandwidth.proofs.Limited.{LimitedRate}
 use Rattle.bandwidth.specs.declared.OptionBitrate.the-variants.{Some, None}
 use Rattle.time.specs.Time as Time
 use Rattle.packets.specs.declared.PacketResultsSummary.{PacketResultsSummary}
@@ -51,29 +51,29 @@ use Rattle.history.proofs.Observed.{Counted, Parted, cleared-counted, a
 
 -- ---- the rates that calls hand over
 
--- a float of binary64, not negative where it is finite
+-- a float of binary64, where it is finite not negative and at most 10^15
 pub record TakenRate (r : Bitrate) : Type 0 where
   pub holds : HoldsRate r
-  pub above : T (finite (r .bps)) → NotNegative (r .bps)
+  pub limited : T (finite (r .bps)) → LimitedRate r
 
 abbrev pub TakenOption : OptionBitrate → Type 0
 TakenOption (Some r) = TakenRate r
 TakenOption None = Unit {0}
 
 infinite-taken : TakenRate (Rate.rate (inf false))
-infinite-taken = record { holds = inf-fits binary64 false; above = λ f. absurd f }
+infinite-taken = record { holds = inf-fits binary64 false; limited = λ f. absurd f }
 
-sign-set : (m : ℕ) (e : ℤ) → signBit (fin true m e) ≡ true
-unfolding signBit
-sign-set m e = refl
+not-two : (b : Bool) → _≡_ {A = ℕ} (cond b 2 0) 0 → b ≡ false
+not-two true e = absurd (omega arith)
+not-two false e = refl
 
 -- what code 2 takes
 by-code-2 : (x : Float) → Holds x → Setters.rateRefusal (Rate.rate x) ≡ 0 → TakenRate (Rate.rate x)
-unfolding Setters.rateRefusal
-by-code-2 nan h e = record { holds = h; above = λ f. absurd f }
-by-code-2 (inf s) h e = record { holds = h; above = λ f. absurd f }
-by-code-2 (fin false m e) h r = record { holds = h; above = λ f. record { holds = h; above = tt } }
-by-code-2 (fin true m e) h r = let two : _≡_ {A = ℕ} 2 0 = rw (sign-set m e) at r in absurd (omega arith)
+unfolding Setters.rateRefusal signBit
+by-code-2 nan h e = record { holds = h; limited = λ f. absurd f }
+by-code-2 (inf s) h e = record { holds = h; limited = λ f. absurd f }
+by-code-2 (fin false m e) h r = record { holds = h; limited = λ f. record { forward = record { holds = h; above = tt }; within = not-two _ r } }
+by-code-2 (fin true m e) h r = absurd (omega arith)
 
 pub rate-taken : (n : ℕ) → Setters.rateRefusal (rateOf n) ≡ 0 → TakenRate (rateOf n)
 rate-taken n e = by-code-2 (bits n) (ofBits-fits binary64 n) e
@@ -94,7 +94,7 @@ pub record SoundObservations (o : Observations) : Type 0 where
   pub timely : Timely (o .«last_send_time_most_recent_observation»)
 
 pub record SoundEstimator (e : Estimator) : Type 0 where
-  -- the estimate, where it is finite, the hold's rate and the limit are not negative
+  -- the estimate, where it is finite, the hold's rate and the window's limit are not negative, and the estimate is at most 10^15
   pub rates : Rates e
   -- the window's start is such a time, and the hold lasts 60 s at most
   pub steady : Steady e
@@ -175,8 +175,8 @@ updated-taken c h r f =
     let capacity = capacity-holds (Setters.isInAlr c) (c .inputs .«link_capacity_estimate») (i .capacity) in
     let fit = bound-holds b capacity (k .rates .limit .holds) (ceiling-not-negative o h (r .tied) .holds) (i .delay .holds) in
     let rows = rows-sent o (r .observations .sent) in
-    let choice = chosen (e .«current_estimate») b (Rows.rows o .rows) (ratio .value) (k .rates .current f) f (i .delay .above)
-    (i .acknowledged .above) fit rows in
+    let choice = chosen (e .«current_estimate») b (Rows.rows o .rows) (ratio .value) (k .rates .current f) (i .delay .limited)
+    (i .acknowledged .limited) fit rows in
     checked-by Taken (Rows.rows o .refusal)
     (λ z. checked-by Taken (ratio .refusal)
     (λ z. checked-by Taken _ (λ z. not-refused e _ (Report.report c (ratio .value)) (k .steady) (k .rates) f (choice .1) (r .observations .timely))

@@ -4,11 +4,11 @@ use Rattle.float.specs.declared.FloatAnswer.{FloatAnswer}
 use Rattle.loss_controller.specs.Result.{averageReportedLossRatio}
 use Rattle.history.specs.Refusals.{Refusals2}
 use Rattle.history.proofs.Weighed.{tied-reported}
-use Rattle.history.proofs.Step.{answers, reached}
+use Rattle.history.proofs.Step.{any-answer, reached}
 
 pub refusals : Refusals2
 unfolding averageReportedLossRatio
 refusals calls = record {
-  each = λ call. answers _ _ (reached calls) call .told;
+  each = λ call. any-answer _ _ (reached calls) call .told;
   ratio = ap (λ (a : FloatAnswer). a .refusal) (tied-reported _ _ (reached calls .tied));
 }

@@ -7,7 +7,7 @@ use mathlib.Core.List.{List, [], _∷_, _++_}
 use mathlib.Core.Option.{none, some}
 use lib.ListN.{replicate}
 use Rattle.history.specs.Calls.{Call, estimate, alr, report, read}
-use Rattle.history.proofs.Tested.{outcome, untraced, unreached}
+use Rattle.history.proofs.Tested.{outcome, untraced, unreached, unescaped}
 
 -- ---- the lists, of packets of 1,000 bytes. The estimate comes last, so that the steps after an observation are not computed
 
@@ -119,3 +119,16 @@ all-lost = refl
 past-10-12 : unreached beyond ≡ true
 unfolding unreached packet frames filled sized beyond
 past-10-12 = refl
+
+-- ---- rates that do not run away (Q-5)
+
+-- an estimate of 10^15 bit/s, published after an observation, and a report without packets
+at-the-limit :
+    unescaped (packet 0 0 ∷ packet 300000000 0 ∷ estimate 0x430C6BF526340000 ∷ []) (report [] [] [] 0x7FF0000000000000 ∷ []) ≡ true
+unfolding unescaped packet
+at-the-limit = refl
+
+-- 1 bit/s, and an infinite estimate, of which nothing is said
+absent-estimate : unescaped (estimate 0x3FF0000000000000 ∷ []) (estimate 0x7FF0000000000000 ∷ []) ≡ true
+unfolding unescaped
+absent-estimate = refl

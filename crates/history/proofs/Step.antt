@@ -1,4 +1,5 @@
--- What every list of calls leaves, every call keeps; and it is refused exactly where document 01 says. Assumes nothing.
+-- What every list of calls leaves, every call keeps; it is refused exactly where document 01 says; and, but for an estimate that is not finite, it keeps
+-- a finite estimate finite. Assumes nothing.
 use Prim.Native.Nat.{ℕ, _+_, _*_, _^_, _≤_}
 use mathlib.Core.Path.{_≡_, refl, sym, _∙_, subst}
 use mathlib.Core.Bool.{Bool, true, false, cond, not, Bool·beq, _&&_}
@@ -6,10 +7,12 @@ use mathlib.Core.List.{List}
 use mathlib.Core.Option.{Option, none, some}
 use borrow.Author.Tests.{eqb-true, eqb-false, ne-eqb}
 use lib.Dec.{T, eqb, ltb}
+use lib.Ieee.Scale.{finite}
 use Rattle.float.specs.Answer.{firstRefusal}
 use Rattle.float.proofs.Both.{both}
 use Rattle.float.proofs.Refusal.{agreed, either, tested, checked as checked-by}
 use Rattle.bandwidth.specs.declared.Bitrate.{Bitrate}
+use Rattle.bandwidth.proofs.Limited.{limited-finite}
 use Rattle.packets.specs.Summary.{columnsRefusal, summaryOf}
 use Rattle.packets.specs.declared.PacketResultsSummary.{PacketResultsSummary}
 use Rattle.packets.proofs.Totals.{summary-early}
@@ -23,8 +26,9 @@ use Rattle.loss_controller.specs.declared.Inputs.{Inputs}
 use Rattle.loss_controller.specs.declared.LossController.{LossController}
 use Rattle.loss_controller.specs.declared.ControllerAnswer.{ControllerAnswer}
 use Rattle.history.specs.Calls.{Call, estimate, acknowledged, alr, capacity, report, read}
-use Rattle.history.specs.History.{Pair, History, isOn, switched, added, completed, withRunning, withReport, heard, fed, after}
+use Rattle.history.specs.History.{Pair, History, isOn, switched, completed, withRunning, withReport, heard, fed, after}
 use Rattle.history.specs.Refusals.{stateRefusal, reportRefusal, refusalOf}
+use Rattle.history.specs.Finite.{estimateOf, handsFinite}
 use Rattle.history.specs.Run.{capacityOf, startOf, step, next, toldOf, left, told}
 use Rattle.history.proofs.Sums.{summed, refusal-of-packets}
 use Rattle.history.proofs.Tied.{reset-tied, heardTotals, added-tied}
@@ -33,38 +37,40 @@ use Rattle.history.proofs.Reached.{TakenRate, SoundInputs, Reached, rat
 use Rattle.history.proofs.Reached.{updated-taken}
 use Rattle.history.proofs.Run.{always}
 
--- an answer to a call before which the history was h: its refusal is this number, and what it leaves is reached, refused with h still, else with the
--- history that has heard the call
-pub record Answered (a : ControllerAnswer) (refusal : ℕ) (h after : History) : Type 0 where
+-- an answer to a call before which the history was h: its refusal is this number; what it leaves is reached, refused with h still, else with the
+-- history that has heard the call; and under E its estimate is finite, E being that it was before and that the call hands over no other, or nothing
+-- that can be where no estimate is asked for
+pub record Answered (E : Type 0) (a : ControllerAnswer) (refusal : ℕ) (h after : History) : Type 0 where
   pub told : a .refusal ≡ refusal
   pub leaves : Reached (a .controller) (cond (not (eqb (a .refusal) 0)) h after)
+  pub estimate : E → T (finite (estimateOf (a .controller)))
 
 -- a test that the controller and the history make alike
-alike : (b : Bool) {x y : ControllerAnswer} {m n : ℕ} {h u v : History} → Answered x m h u → (b ≡ false → Answered y n h v)
-    → Answered (cond b x y) (cond b m n) h (cond b u v)
+alike : {E : Type 0} (b : Bool) {x y : ControllerAnswer} {m n : ℕ} {h u v : History} → Answered E x m h u → (b ≡ false → Answered E y n h v)
+    → Answered E (cond b x y) (cond b m n) h (cond b u v)
 alike true p q = p
 alike false p q = q refl
 
-module _ (c : LossController) (h : History) (r : Reached c h) where
+module _ (c : LossController) (h : History) (r : Reached c h) (E : Type 0) (k : E → T (finite (estimateOf c))) where
   -- a refusal
-  refused-answered : (refusal : ℕ) (after : History) → (refusal ≡ 0 → ⊥) → Answered (refused c refusal) refusal h after
-  refused-answered refusal after n = record { told = refl; leaves = rw (ne-eqb refusal 0 n) r }
+  refused-answered : (refusal : ℕ) (after : History) → (refusal ≡ 0 → ⊥) → Answered E (refused c refusal) refusal h after
+  refused-answered refusal after n = record { told = refl; leaves = rw (ne-eqb refusal 0 n) r; estimate = k }
 
   -- and a test for one
   checked-answered : (refusal : ℕ) (a : ControllerAnswer) (later : ℕ) (after : History)
-      → (refusal ≡ 0 → Answered a later h after) → Answered (checked c refusal a) (firstRefusal refusal later) h after
+      → (refusal ≡ 0 → Answered E a later h after) → Answered E (checked c refusal a) (firstRefusal refusal later) h after
   checked-answered refusal a later after taken = go (eqb refusal 0) refl
     where
-      go : (b : Bool) → eqb refusal 0 ≡ b → Answered (cond b a (refused c refusal)) (cond b later refusal) h after
+      go : (b : Bool) → eqb refusal 0 ≡ b → Answered E (cond b a (refused c refusal)) (cond b later refusal) h after
       go true e = taken (eqb-true refusal 0 e)
       go false e = refused-answered refusal after (eqb-false refusal 0 e)
 
   -- ---- a setter
 
-  set-answered : (refusal : ℕ) (set : LossController) (after : History) → (refusal ≡ 0 → Reached set after)
-      → Answered (checked c refusal (answered set)) refusal h after
-  set-answered refusal set after taken =
-      checked-by (λ (a : ControllerAnswer). Answered a refusal h after) refusal (λ z. record { told = sym z; leaves = taken z })
+  set-answered : (refusal : ℕ) (set : LossController) (after : History) → (refusal ≡ 0 → Reached set after) → (E → T (finite (estimateOf set)))
+      → Answered E (checked c refusal (answered set)) refusal h after
+  set-answered refusal set after taken kept =
+      checked-by (λ (a : ControllerAnswer). Answered E a refusal h after) refusal (λ z. record { told = sym z; leaves = taken z; estimate = kept })
       (refused-answered refusal after)
 
   -- other inputs, but for ALR
@@ -107,6 +113,14 @@ module _ (c : LossController) (h : History) (r : Reached c h) where
         inputs = inputs;
       })
 
+  switched-kept : (start : Option ℕ) → E
+      → let set = withAlrStartTime c (startOf start) in
+      T (finite (estimateOf (cond (Bool·beq (isInAlr c) (isSome (startOf start))) set (resetObservations set))))
+  unfolding withAlrStartTime resetObservations withInputs withObservations
+  switched-kept start held =
+      let set = withAlrStartTime c (startOf start) in
+      either (λ (c : LossController). T (finite (estimateOf c))) (Bool·beq (isInAlr c) (isSome (startOf start))) set (resetObservations set) (k held) (k held)
+
   -- ---- a report
 
   abbrev totalsRefusal : PacketResultsSummary → ℕ
@@ -117,13 +131,14 @@ module _ (c : LossController) (h : History) (r : Reached c h) where
   reported-on p packets time sent = either (λ (after : History). after .on ≡ h .on) (ltb (time + 250000000) sent) _ _ refl refl
 
   -- the steps after a complete observation are not refused
-  observed-answered : (new : LossController) (after : History) (completed : Bool) → Reached new after → Answered (Report.observed c new completed) 0 h after
+  observed-answered : (new : LossController) (after : History) (completed : Bool) → Reached new after → new .estimator ≡ c .estimator
+      → Answered E (Report.observed c new completed) 0 h after
   unfolding Report.observed withEstimator
-  observed-answered new after completed j =
+  observed-answered new after completed j same =
       let updated = Report.updatedEstimator new in
-      tested (λ (a : ControllerAnswer). Answered a 0 h after) (completed && Report.hasValidEstimate new)
+      tested (λ (a : ControllerAnswer). Answered E a 0 h after) (completed && Report.hasValidEstimate new)
       (λ e. let u = updated-taken new after j (subst T (sym (both completed (Report.hasValidEstimate new) e .1)) tt) in
-      checked-by (λ (a : ControllerAnswer). Answered a 0 h after) (updated .refusal)
+      checked-by (λ (a : ControllerAnswer). Answered E a 0 h after) (updated .refusal)
       (λ z.
       record {
         told = refl;
@@ -135,12 +150,13 @@ module _ (c : LossController) (h : History) (r : Reached c h) where
               estimator = record { rates = u .rates; steady = u .steady };
               inputs = j .inputs;
             };
+        estimate = λ held. limited-finite _ (u .estimate);
       })
       (λ n. absurd (n (u .refusal))))
-      (λ e. record { told = refl; leaves = j })
+      (λ e. record { told = refl; leaves = j; estimate = λ held. rw same (k held) })
 
   reported-answered : (s : PacketResultsSummary) (delay : Bitrate) → TakenRate delay → Parted s → s .«last_send_time» ≤ 4 * 10 ^ 18
-      → Answered (Report.reported c s delay) (cond (eqb (s .«num_packets») 0) 0 (totalsRefusal s)) h (cond (eqb (s .«num_packets») 0) h (heardTotals h s))
+      → Answered E (Report.reported c s delay) (cond (eqb (s .«num_packets») 0) 0 (totalsRefusal s)) h (cond (eqb (s .«num_packets») 0) h (heardTotals h s))
   unfolding Report.reported Report.withDelayBasedEstimate withInputs withObservations
   reported-answered s delay d parted early =
       let o = c .observations in
@@ -148,22 +164,26 @@ module _ (c : LossController) (h : History) (r : Reached c h) where
       let inputs : SoundInputs (Report.withDelayBasedEstimate c delay .inputs) =
       record { delay = d; acknowledged = r .inputs .acknowledged; capacity = r .inputs .capacity } in
       alike (eqb (s .«num_packets») 0)
-      (record { told = refl; leaves = record { tied = r .tied; on = r .on; observations = r .observations; estimator = r .estimator; inputs = inputs } })
+      (record {
+        told = refl;
+        leaves = record { tied = r .tied; on = r .on; observations = r .observations; estimator = r .estimator; inputs = inputs };
+        estimate = k;
+      })
       (λ e. let there = eqb-false (s .«num_packets») 0 e in
       let refusal = added-refusal o h (r .tied) s (r .observations .counted) there (parted .packets) (parted .bytes) in
-      checked-by (λ (b : ControllerAnswer). Answered b (totalsRefusal s) h (heardTotals h s)) (a .refusal)
+      checked-by (λ (b : ControllerAnswer). Answered E b (totalsRefusal s) h (heardTotals h s)) (a .refusal)
       (λ z. let b = observed-answered _ (heardTotals h s) (a .completed) (record {
         tied = added-tied o h (r .tied) s (parted .bytes) there z;
         on = r .on ∙ sym (reported-on _ _ _ _);
         observations = added-sound o s (r .observations) parted early;
         estimator = r .estimator;
         inputs = inputs;
-      }) in
-      record { told = b .told ∙ sym z ∙ refusal; leaves = b .leaves })
-      (λ n. record { told = refusal; leaves = refused-answered (a .refusal) (heardTotals h s) n .leaves }))
+      }) refl in
+      record { told = b .told ∙ sym z ∙ refusal; leaves = b .leaves; estimate = b .estimate })
+      (λ n. record { told = refusal; leaves = refused-answered (a .refusal) (heardTotals h s) n .leaves; estimate = k }))
 
   updated-answered : (times sizes flags : List ℕ) (delay : ℕ)
-      → Answered (Report.updateBandwidthEstimate c times sizes flags (rateOf delay)) (reportRefusal h times sizes flags delay) h
+      → Answered E (Report.updateBandwidthEstimate c times sizes flags (rateOf delay)) (reportRefusal h times sizes flags delay) h
       (heard h (report times sizes flags delay))
   unfolding Report.updateBandwidthEstimate reportRefusal heard
   updated-answered times sizes flags delay =
@@ -178,38 +198,49 @@ module _ (c : LossController) (h : History) (r : Reached c h) where
 
   -- ---- any call
 
-  pub answers : (call : Call) → Answered (step c call) (refusalOf h call) h (heard h call)
-  unfolding step refusalOf heard setBandwidthEstimate setAcknowledgedBitrate setLinkCapacityEstimate setAlrStartTime withEstimator
-  answers (estimate n) =
-      let k = r .estimator in
+  answers : (call : Call) → (E → T (handsFinite call)) → Answered E (step c call) (refusalOf h call) h (heard h call)
+  unfolding step refusalOf heard setBandwidthEstimate setAcknowledgedBitrate setLinkCapacityEstimate setAlrStartTime withEstimator withAlrStartTime
+      resetObservations withInputs withObservations
+  answers (estimate n) finite-estimate =
+      let s = r .estimator in
       set-answered (rateRefusal (rateOf n)) _ h
       (λ z. record {
         tied = r .tied;
         on = r .on;
         observations = r .observations;
         estimator = record {
-          rates = record { current = rate-taken n z .above; hold = k .rates .hold; limit = k .rates .limit };
-          steady = record { start = k .steady .start; span = k .steady .span };
+          rates = record { current = rate-taken n z .limited; hold = s .rates .hold; limit = s .rates .limit };
+          steady = record { start = s .steady .start; span = s .steady .span };
         };
         inputs = r .inputs;
       })
-  answers (acknowledged n) =
+      finite-estimate
+  answers (acknowledged n) u =
       let i = r .inputs in
       set-answered (rateRefusal (rateOf n)) _ h
-      (λ z. inputs-reached _ refl (record { delay = i .delay; acknowledged = rate-taken n z; capacity = i .capacity }))
-  answers (alr start) = set-answered (startRefusal (startOf start)) _ _ (λ z. switched-reached start)
-  answers (capacity n) =
+      (λ z. inputs-reached _ refl (record { delay = i .delay; acknowledged = rate-taken n z; capacity = i .capacity })) k
+  answers (alr start) u = set-answered (startRefusal (startOf start)) _ _ (λ z. switched-reached start) (switched-kept start)
+  answers (capacity n) u =
       let i = r .inputs in
       set-answered (capacityRefusal (capacityOf n)) _ h
-      (λ z. inputs-reached _ refl (record { delay = i .delay; acknowledged = i .acknowledged; capacity = capacity-taken n z }))
-  answers (report times sizes flags delay) = updated-answered times sizes flags delay
-  answers read = record { told = refl; leaves = r }
+      (λ z. inputs-reached _ refl (record { delay = i .delay; acknowledged = i .acknowledged; capacity = capacity-taken n z })) k
+  answers (report times sizes flags delay) u = updated-answered times sizes flags delay
+  answers read u = record { told = refl; leaves = r; estimate = k }
+
+-- what is said of every call, whatever becomes of the estimate
+pub any-answer : (c : LossController) (h : History) → Reached c h → (call : Call) → Answered ⊥ (step c call) (refusalOf h call) h (heard h call)
+any-answer c h r call = answers c h r ⊥ (λ no. absurd no) call (λ no. absurd no)
+
+-- every call but an estimate that is not finite keeps a finite one
+pub estimate-kept : (c : LossController) (h : History) → Reached c h → (call : Call) → T (handsFinite call) → T (finite (estimateOf c))
+    → T (finite (estimateOf (next c call)))
+estimate-kept c h r call n f = answers c h r (Unit {0}) (λ u. f) call (λ u. n) .estimate tt
 
 -- ---- every list
 
-step-reached : (c : LossController) (h : History) (call : Call) → Reached c h → Reached (next c call) (fed h (toldOf c call))
+pub step-reached : (c : LossController) (h : History) (call : Call) → Reached c h → Reached (next c call) (fed h (toldOf c call))
 unfolding fed toldOf
-step-reached c h call r = answers c h r call .leaves
+step-reached c h call r = any-answer c h r call .leaves
 
 pub reached : (calls : List Call) → Reached (left calls) (after (told calls))
 reached calls = always Reached step-reached initial-reached calls

@@ -3,12 +3,14 @@
 use Prim.Native.Nat.{ℕ, _+_, _*_}
 use mathlib.Core.Path.{_≡_, refl, ap, _∙_, subst}
 use mathlib.Core.Bool.{Bool, true, false, not, _&&_, _||_}
-use mathlib.Core.List.{List, [], _∷_, _++_, foldl-append}
+use mathlib.Core.List.{List, [], _∷_, _++_, map, foldl-append}
 use borrow.Author.Tests.{eq-eqb, ne-eqb, le-leb, ltb-true, leb-true, eqb-false}
-use lib.Dec.{eqb, leb, ltb}
+use lib.Dec.{T, eqb, leb, ltb}
 use lib.Ieee.{Float, add, binary64, div, eq, inFloat, isNan, lt, mul, ofBits, ofInt, sub, toBits}
 use lib.Ieee.Bits.{is-true}
 use lib.Ieee.Positive.{num, den}
+use lib.Ieee.Scale.{finite}
+use Rattle.float.specs.Rounded.{bits}
 use Rattle.float.specs.Rust.{minimum, signBit}
 use Rattle.float.specs.declared.FloatAnswer.{FloatAnswer}
 use Rattle.duration.specs.Seconds.{seconds}
@@ -41,6 +43,7 @@ use Rattle.history.specs.Run.{step, next, toldOf, leftOf, allTold, left,
 use Rattle.history.specs.Demand.{NearRatio, UnderLossCeiling, Demand, Demand3}
 use Rattle.history.specs.Refusals.{packetsRefusal, reportRefusal, refusalOf, Refusals2}
 use Rattle.history.specs.Unreached.{BoundedRatio, RatioAtMostOne, outsideDomain, Never6}
+use Rattle.history.specs.Finite.{estimateOf, isReport, handsFinite, all, StaysFinite, mostBits, UpToMost, Limited, AtMost}
 use Rattle.history.specs.Unrefused.{isTaken, answersOf, withoutRefusals, NoneRefused, withoutRefused, Unrefused1}
 
 -- ---- laws on tests
@@ -211,6 +214,50 @@ never-true n before (call ∷ calls) =
     let leaves : left (before ++ (call ∷ [])) ≡ next (left before) call = foldl-append next initial before (call ∷ []) in
     holds (ap not (ne-eqb _ outsideDomain (n before call))) (rw leaves at (never-true n (before ++ (call ∷ [])) calls))
 
+-- ---- `StaysFinite` and `AtMost`
+
+stays : LossController → List Call → Bool
+stays c later =
+    not (finite (estimateOf c)) || (not (all isReport later || all handsFinite later) || finite (estimateOf (leftOf c later)))
+
+stays-true : StaysFinite → (calls later : List Call) → stays (left calls) later ≡ true
+unfolding stays
+stays-true s calls later =
+    implied (finite (estimateOf (left calls)))
+    (λ f. implied (all isReport later || all handsFinite later)
+    (λ e. is-true _ (one-of (all isReport later) (all handsFinite later) e (λ t. s calls .reports later t (told-true f))
+    (λ t. s calls .calls later t (told-true f)))))
+  where
+    told-true : {b : Bool} → b ≡ true → T b
+    told-true e = rw e tt
+
+    one-of : {A : Type 0} (a b : Bool) → (a || b) ≡ true → (T a → A) → (T b → A) → A
+    one-of true b e f g = f tt
+    one-of false b e f g = g (told-true e)
+
+upToMost : Float → Bool
+upToMost x = plain x && leb (num x) (mostBits * den x)
+
+-- 0.0 and 10^15; the next float, -1.0, infinity and NaN
+up-to-most-examples :
+    map (λ n. upToMost (bits n)) (0 ∷ 0x430C6BF526340000 ∷ 0x430C6BF526340001 ∷ 0xBFF0000000000000 ∷ 0x7FF0000000000000 ∷ 0x7FF8000000000000 ∷ []) ≡
+    true ∷ true ∷ false ∷ false ∷ false ∷ false ∷ []
+unfolding upToMost ofBits
+up-to-most-examples = refl
+
+up-to-most-true : (x : Float) → UpToMost x → upToMost x ≡ true
+unfolding upToMost
+up-to-most-true x u = holds (is-true (plain x) (u .plainly)) (le-leb _ _ (u .below))
+
+limited : LossController → Bool
+limited c = (not (finite (estimateOf c)) || upToMost (estimateOf c)) && each upToMost (lossBasedResult c .«bandwidth_estimate»)
+
+limited-true : (c : LossController) → Limited c → limited c ≡ true
+unfolding limited
+limited-true c l =
+    holds (implied (finite (estimateOf c)) (λ f. up-to-most-true _ (l .estimate (rw f tt))))
+    (each-true upToMost _ (λ r e. up-to-most-true _ (l .published r e)))
+
 -- ---- on a list, with every definition that it computes by
 
 -- `Demand3` and `Refusals2`, and what of the list they speak of
@@ -254,3 +301,12 @@ unreached calls = bounded (averageReportedLossRatio (left calls)) && never initi
 pub unreached-met : RatioAtMostOne → Never6 → (calls : List Call) → unreached calls ≡ true
 unfolding unreached
 unreached-met r n calls = holds (bounded-true (averageReportedLossRatio (left calls)) (r calls)) (never-true n [] calls)
+
+-- `StaysFinite`, with the calls after which the estimate is asked again, and `AtMost`, after all of them
+unfoldable pub unescaped : List Call → List Call → Bool
+unfolding outcome stays limited upToMost all
+unescaped calls later = stays (left calls) later && limited (left (calls ++ later))
+
+pub unescaped-met : StaysFinite → AtMost → (calls later : List Call) → unescaped calls later ≡ true
+unfolding unescaped
+unescaped-met s m calls later = holds (stays-true s calls later) (limited-true (left (calls ++ later)) (m (calls ++ later)))

@@ -12,11 +12,12 @@ use lib.Ieee.Scale.{finite}
 use Rattle.float.specs.Answer.{firstRefusal}
 use Rattle.float.specs.Rust.{signBit}
 use Rattle.float.proofs.Refusal.{either}
+use Rattle.bandwidth.specs.Rate.{mostRate}
 use Rattle.bandwidth.specs.declared.Bitrate.{Bitrate}
 use Rattle.packets.specs.Summary.{mostPackets, latestTime, largestPacket, columnsRefusal, packets, packetRefusal}
 use Rattle.packets.specs.declared.PacketResult.{PacketResult}
 use Rattle.loss_controller.specs.Result.{averageReportedLossRatio}
-use Rattle.loss_controller.specs.Setters.{rateOf, mostRate, rateRefusal, capacityRefusal, timeRefusal, startRefusal}
+use Rattle.loss_controller.specs.Setters.{rateOf, rateRefusal, capacityRefusal, timeRefusal, startRefusal}
 use Rattle.history.specs.Calls.{Call, estimate, acknowledged, alr, capacity, report, read}
 use Rattle.history.specs.History.{History, bytesOf, latest}
 use Rattle.history.specs.Refusals.{packetsRefusal, passes, fills, stateRefusal, reportRefusal, refusalOf}
@@ -48,7 +49,7 @@ first-of a b p q = either NotSix (eqb a 0) b a q p
 
 rate-not-six : (r : Bitrate) → NotSix (rateRefusal r)
 unfolding rateRefusal
-rate-not-six r = one-of (finite (r .bps) && (signBit (r .bps) || lt mostRate (r .bps))) 2 0 refl refl
+rate-not-six r = one-of (finite (r .bps) && (signBit (r .bps) || lt (mostRate .bps) (r .bps))) 2 0 refl refl
 
 time-not-six : (time : ℕ) → NotSix (timeRefusal time)
 unfolding timeRefusal

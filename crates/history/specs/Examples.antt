@@ -5,18 +5,20 @@ use mathlib.Core.Bool.{true, false}
 use mathlib.Core.List.{List, [], _∷_, _++_, map}
 use mathlib.Core.Option.{none, some}
 use lib.ListN.{length, replicate}
-use lib.Ieee.{le, lt, ofBits, toBits}
+use lib.Ieee.{le, lt, ofBits, ofInt, toBits}
 use Rattle.float.specs.Rounded.{bits}
 use Rattle.float.specs.Rust.{signBit}
+use Rattle.bandwidth.specs.Rate.{mostRate, nearest}
 use Rattle.logarithm.specs.Ln.{logarithm}
 use Rattle.rounding.specs.Exact.{exactSum}
 use Rattle.packets.specs.Summary.{columnsRefusal, packets, packetRefusal}
 use Rattle.loss_controller.specs.Setters.{rateRefusal}
-use Rattle.history.specs.Calls.{Call, estimate, alr, report, read, Told}
+use Rattle.history.specs.Calls.{Call, estimate, acknowledged, alr, capacity, report, read, Told}
 use Rattle.history.specs.History.{History, fresh, switched, bytesOf, lostOf, latest, completed, withRunning, withReport, heard, fed, after}
 use Rattle.history.specs.WeighedPairs.{aged, weighedLost, weighedBytes, allBytes}
 use Rattle.history.specs.Refusals.{packetsRefusal, reportRefusal, refusalOf}
 use Rattle.history.specs.Unreached.{outsideDomain}
+use Rattle.history.specs.Finite.{isReport, handsFinite, all, mostBits}
 
 abbrev taken : Call → Told
 taken c = record { call = c; refused = false }
@@ -124,3 +126,28 @@ next-frame = (refl, refl, refl)
 zero-argument : logarithm (bits 0) .refusal ≡ outsideDomain
 unfolding logarithm le ofBits
 zero-argument = refl
+
+-- ---- calls that hand over no estimate that is not finite (Q-5)
+
+-- 10^15, the largest float, infinity, minus infinity and a NaN as estimates; infinity as acknowledged rate, as capacity and as a report's delay estimate
+finite-hands :
+    map (λ n. handsFinite (estimate n))
+    (0x430C6BF526340000 ∷ 0x7FEFFFFFFFFFFFFF ∷ 0x7FF0000000000000 ∷ 0xFFF0000000000000 ∷ 0x7FF8000000000001 ∷ []) ≡
+    true ∷ true ∷ false ∷ false ∷ false ∷ []
+    × all handsFinite
+    (acknowledged 0x7FF0000000000000 ∷ capacity (some 0x7FF0000000000000) ∷ alr none ∷ read
+    ∷ report (0 ∷ []) (0 ∷ []) (0 ∷ []) 0x7FF0000000000000 ∷ []) ≡
+    true
+unfolding all ofBits
+finite-hands = (refl, refl)
+
+-- reports, refused ones among them, and not a read
+reports-alone :
+    map (all isReport) ((report [] [] [] 0 ∷ report (0 ∷ []) [] [] 0 ∷ []) ∷ (report [] [] [] 0 ∷ read ∷ []) ∷ [] ∷ []) ≡ true ∷ false ∷ true ∷ []
+unfolding all
+reports-alone = refl
+
+-- the limit is the one that code 2 has
+same-limit : mostRate ≡ nearest mostBits
+unfolding ofBits ofInt
+same-limit = refl

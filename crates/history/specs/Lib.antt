@@ -6,4 +6,5 @@ pub mod Demand
 pub mod Refusals
 pub mod Unrefused
 pub mod Unreached
+pub mod Finite
 mod Examples
