@@ -23,6 +23,7 @@ if command -v rustc >/dev/null 2>&1; then
     oracle/levels.sh logarithm replay_logarithm
     oracle/levels.sh controller_steps replay_steps
     oracle/levels.sh calls replay_calls
+    oracle/inside-demand-2.sh
     oracle/program.sh target/oracle/program
     cmp target/oracle/program/stdin crates/answer/stdin
     cmp target/oracle/program/stdout crates/answer/stdout

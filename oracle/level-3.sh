@@ -10,9 +10,9 @@ trap 'rm -rf "$work"' EXIT
 list=examples/weights_at_level_3
 for level in 0 1 2 3; do
     "$(oracle/build.sh weights "$level")" >"$work/weights_$level"
-    "$(oracle/build.sh published "$level")" <$list.txt >"$work/published_$level"
+    "$(oracle/build.sh platform "$level")" <$list.txt >"$work/platform_$level"
     differ=$(grep -c differs "$work/weights_$level") || [ "$differ" = 0 ]
-    last=$(tail -n 1 "$work/published_$level")
+    last=$(tail -n 1 "$work/platform_$level")
     echo "level $level: $differ of 15 weights are not those of the steps; last answer$last"
     eval "differ_$level=\$differ"
 done
@@ -21,10 +21,10 @@ echo "oracle:                                               last answer$(tail -n
 cat "$work/weights_3"
 [ "$differ_0$differ_1$differ_2" = 000 ] && [ "$differ_3" -gt 0 ]
 for level in 0 1 2; do
-    cmp "$work/published_$level" "$work/oracle"
+    cmp "$work/platform_$level" "$work/oracle"
 done
-[ "$(wc -l <"$work/published_3")" = 13 ]
-if cmp -s "$work/published_3" "$work/oracle"; then
+[ "$(wc -l <"$work/platform_3")" = 13 ]
+if cmp -s "$work/platform_3" "$work/oracle"; then
     echo "level 3 publishes the same" >&2
     exit 1
 fi

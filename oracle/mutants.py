@@ -7,8 +7,11 @@ three lists that tell it, with the first line that differs. Exit status 1 if a m
 marked 'unseen' survives, if one that is marked is told, or if an edit does not fit or does not build.
 
 Usage: oracle/mutants.py --steps. Prints which mutants the stored states of the controller's steps
-tell, among those that edit the vendored files or the steps; setters and first values are no part
-of a state, so that some go untold.
+tell, among those that edit the vendored files, the steps or the limit; setters and first values are no
+part of a state, so that some go untold.
+
+Usage: oracle/mutants.py --arithmetic. The same of the stored calls of the arithmetic, among the mutants
+that edit rates, sizes, times or the limit.
 
 Usage: oracle/mutants.py --calls [WORDS]. The same as with a directory, on the stored calls of the
 controller as call lists. Line reader and queue are no part of these, so that their mutants survive.
@@ -43,11 +46,17 @@ def read_mutants():
     mutants = []
     for line in (ORACLE / "mutants.txt").read_text().splitlines():
         if line.startswith("== "):
-            mutants.append({"name": line[3:], "after": "", "unseen": None, "stream": None})
+            mutants.append({"name": line[3:], "edits": [{"after": ""}], "unseen": None})
         elif line and not line.startswith("#"):
             key, _, value = line.partition(" ")
-            assert key in ("file", "after", "old", "new", "unseen", "stream"), line
-            mutants[-1][key] = value
+            if key == "unseen":
+                mutants[-1][key] = value
+                continue
+            assert key in ("file", "after", "old", "new"), line
+            edits = mutants[-1]["edits"]
+            if "new" in edits[-1]:
+                edits.append({"file": edits[-1]["file"], "after": ""})
+            edits[-1][key] = value
     mutants += read_touches()
     names = [mutant["name"] for mutant in mutants]
     assert len(set(names)) == len(names), "a name twice"
@@ -74,7 +83,7 @@ def read_touches():
     pairs = [(call["name"], field["name"]) for call in calls for field in fields]
     known = {f"{call}, {field}" for call, field in pairs} | {f"any call, {f['name']}" for f in fields}
     assert unseen.keys() <= known, unseen.keys() - known
-    return [{"name": f"touch: {call} clears {field}", "stream": None, "touch": (calls, fields),
+    return [{"name": f"touch: {call} clears {field}", "touch": (calls, fields),
              "chosen": f"{call}, {field}",
              "unseen": unseen.get(f"{call}, {field}", unseen.get(f"any call, {field}"))}
             for call, field in pairs]
@@ -98,30 +107,44 @@ def touching(calls, fields):
     return texts
 
 
-def edited(mutant, text=None):
-    text = text or (ORACLE / mutant["file"]).read_text()
-    after = mutant["after"]
+def texts_of(mutant):
+    """The sources that a mutant changes."""
+    if "touch" in mutant:
+        return touching(*mutant["touch"])
+    texts = {}
+    for edit in mutant["edits"]:
+        texts[edit["file"]] = edited(edit, texts.get(edit["file"]))
+    return texts
+
+
+def edited(edit, text=None):
+    text = text or (ORACLE / edit["file"]).read_text()
+    after = edit["after"]
     if after and after not in text:
         raise ValueError("no such place: " + after)
     start = text.index(after)
-    place = text.find(mutant["old"], start)
+    place = text.find(edit["old"], start)
     if place < 0:
-        raise ValueError("no such text: " + mutant["old"])
-    return text[:place] + mutant["new"] + text[place + len(mutant["old"]):]
+        raise ValueError("no such text: " + edit["old"])
+    return text[:place] + edit["new"] + text[place + len(edit["old"]):]
 
 
-def sources():
-    """What the program is built from; the generator and the other programs are no part of it."""
-    names = """answer answer_line bwe call_list controller_steps instant line log private_steps
-        random reads steps stream tell tie""".split()
-    return [ORACLE / "src" / (name + ".rs") for name in names] + sorted(ORACLE.glob("vendor/*.rs"))
+def sources(program):
+    """What the programs are built from; the generator and the other programs are no part of it."""
+    names = """answer answer_line bwe call_list controller_steps instant limit line log private_steps
+        random reads replay_files steps stream tell tie""".split()
+    shared = [ORACLE / "src" / (name + ".rs") for name in names] + sorted(ORACLE.glob("vendor/*.rs"))
+    if program != "arithmetic":
+        return shared
+    alone = [ORACLE / "src/arithmetic.rs", ORACLE / "src/no_limit.rs"]
+    return shared + alone + sorted(ORACLE.glob("src/arithmetic/*.rs"))
 
 
 def build(mutant, name="answer"):
     """The mutant's program; built anew only where a source or the edit changed."""
-    texts = touching(*mutant["touch"]) if "touch" in mutant else {mutant["file"]: edited(mutant)}
+    texts = texts_of(mutant)
     digest = hashlib.sha256(repr((texts, RUSTC, name == "tell")).encode())
-    for source in sources():
+    for source in sources(name):
         digest.update(source.read_bytes())
     home = OUT / digest.hexdigest()[:24]
     program = home / name
@@ -132,11 +155,14 @@ def build(mutant, name="answer"):
     for tree in {home, wrong}:
         for part in ("src", "vendor"):
             (tree / part).mkdir(parents=True, exist_ok=True)
-        for source in sources():
+        for source in sources(name):
+            (tree / source.relative_to(ORACLE)).parent.mkdir(exist_ok=True)
             shutil.copy(source, tree / source.relative_to(ORACLE))
     for file, text in texts.items():
         (wrong / file).write_text(text)
-    subprocess.run([*RUSTC, "-o", home / (name + ".new"), home / "src" / (name + ".rs")],
+    # TimeDelta::from_secs and from_millis are test-only in the source.
+    test = ["--cfg", "test"] if name == "arithmetic" else []
+    subprocess.run([*RUSTC, *test, "-o", home / (name + ".new"), home / "src" / (name + ".rs")],
                    check=True, capture_output=True, text=True)
     os.replace(home / (name + ".new"), program)
     return program
@@ -160,24 +186,8 @@ def first_difference(program, calls, answers, touch):
                 min(len(ours), len(theirs)))
 
 
-def told_by_stream(mutant, program):
-    """The first line that differs on a list that is too long to store."""
-    built = ROOT / "target/oracle"
-    lists = f"'{built}/generate-2' stream {mutant['stream']}"
-    command = f"cmp <({lists} | '{built}/answer-2') <({lists} | '{program}')"
-    run = subprocess.run(["bash", "-c", command], capture_output=True, text=True)
-    if run.returncode > 1:
-        raise ValueError("the stream cannot be compared: " + run.stderr)
-    if run.returncode == 0:
-        return []
-    line = run.stdout.split()[-1] if run.stdout else "panic"
-    return [("stream " + mutant["stream"], line)]
-
-
 def told_by(mutant, lists):
     program = build(mutant)
-    if mutant["stream"]:
-        return told_by_stream(mutant, program)
     told = []
     for calls in lists:
         line = first_difference(program, calls, calls.with_suffix(".answers"), mutant.get("chosen", ""))
@@ -200,27 +210,28 @@ def judge(mutant, lists):
     return ("SEEN" if told else "unseen"), mutant["unseen"], told
 
 
-def told_by_states(mutant):
-    """Whether a stored state of the controller's steps tells the mutant."""
-    program = build(mutant, "controller_steps")
+def told_by_replay(mutant, name, crate):
+    """Whether a stored call of a replay, which the program of that name makes, tells the mutant."""
+    program = build(mutant, name)
     answers = program.with_name("answers")
-    run = subprocess.run([program, program.with_name("states"), answers], capture_output=True)
-    stored = ROOT / "crates/replay_steps/stdout"
+    run = subprocess.run([program, program.with_name("calls"), answers], capture_output=True)
+    stored = ROOT / "crates" / crate / "stdout"
     return run.returncode != 0 or answers.read_bytes() != stored.read_bytes()
 
 
 # No edit: a program that is built the same way and has to survive, so that one that cannot even be
 # started is not taken for a wrong one.
-CONTROL = {"name": "no edit", "file": "src/steps.rs", "after": "", "old": "", "new": "", "unseen": None,
-           "stream": None}
+CONTROL = {"name": "no edit", "edits": [{"file": "src/steps.rs", "after": "", "old": "", "new": ""}],
+           "unseen": None}
 
 
-def states():
-    assert not told_by_states(CONTROL), "the program without an edit is told"
+def replay(name, crate, files):
+    """Which mutants whose edits all lie in these files the stored answers of a replay tell."""
+    assert not told_by_replay(CONTROL, name, crate), "the program without an edit is told"
     mutants = [mutant for mutant in read_mutants()
-               if mutant.get("file", "").startswith("vendor/") or mutant.get("file") == "src/steps.rs"]
+               if "touch" not in mutant and all(edit["file"] in files for edit in mutant["edits"])]
     with concurrent.futures.ThreadPoolExecutor(os.cpu_count()) as pool:
-        told = list(pool.map(told_by_states, mutants))
+        told = list(pool.map(lambda mutant: told_by_replay(mutant, name, crate), mutants))
     for mutant, is_told in zip(mutants, told):
         print("told  " if is_told else "untold", mutant["name"])
     unseen = sum(is_told and mutant["unseen"] is not None for mutant, is_told in zip(mutants, told))
@@ -248,7 +259,7 @@ def answer(calls):
 
 
 def seeds(kind, first, last, words=""):
-    mutants = [mutant for mutant in read_mutants() if words in mutant["name"] and not mutant["stream"]]
+    mutants = [mutant for mutant in read_mutants() if words in mutant["name"]]
     assert mutants, "no mutants"
 
     def told(seed):
@@ -295,7 +306,10 @@ def stored_calls():
 
 def main():
     if sys.argv[1:] == ["--steps"]:
-        return states()
+        vendored = [f"vendor/{path.name}" for path in ORACLE.glob("vendor/*.rs")]
+        return replay("controller_steps", "replay_steps", [*vendored, "src/steps.rs", "src/limit.rs"])
+    if sys.argv[1:] == ["--arithmetic"]:
+        return replay("arithmetic", "replay", ["vendor/bandwidth.rs", "vendor/time.rs", "src/limit.rs"])
     if sys.argv[1:2] == ["--search"]:
         return search(*sys.argv[2:])
     for program in ("answer", "generate"):

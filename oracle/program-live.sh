@@ -1,8 +1,10 @@
 #!/bin/sh
 # Usage: oracle/program-live.sh [LISTS [SEED]]
 # Compares the program with the oracle: on fresh lists of every kind, damaged ones among them, on the
-# streamed lists that come to code 10 and that have lines of both widths, on two lists that are no fresh
-# ones, and on what a shell can hand it.
+# streamed lists that come to code 10, that have lines of both widths and that run to the limit of rates, on
+# the stored list and two that are no fresh ones, and on what a shell can hand it. What comes before the line
+# at which a list leaves demand 2 (request Q-5) is compared with the published build, the rest with the
+# departed one.
 # Needs rustc, and asks 'rt check answer' for the program. With PROGRAM=FILE in the environment that program
 # is compared instead.
 set -eu
@@ -15,6 +17,7 @@ if [ -z "$program" ]; then
     program=$PWD/target/bin/answer
 fi
 answer=$PWD/$(oracle/build.sh answer)
+unlimited=$PWD/$(oracle/build.sh unlimited)
 compare=$(oracle/build.sh compare)
 generate=$(oracle/build.sh generate)
 work=$(mktemp -d)
@@ -34,13 +37,15 @@ ends() {
     exit 1
 }
 
-ends "fresh lists" 300 0 "$compare" "$lists" "$seed" -- "$program"
-for stream in bytes mixed; do
+ends "fresh lists" 300 0 "$compare" --published "$unlimited" "$lists" "$seed" -- "$program"
+ends "the stored list" 60 0 oracle/both-builds.sh crates/answer/stdin "$program"
+for stream in bytes mixed infinity six-hours; do
     ends "a streamed list" 300 0 oracle/compare-stream.sh "$stream" "$program"
 done
 
+# None of these leaves demand 2.
 same() {
-    "$answer" <"$work/list" >"$work/theirs"
+    "$unlimited" <"$work/list" >"$work/theirs"
     ends "$1" 60 0 "$program" <"$work/list" >"$work/ours"
     cmp "$work/theirs" "$work/ours"
     echo "$1: no difference"

@@ -7,6 +7,9 @@ cd "$(dirname "$0")/.."
 work=target/oracle/quick
 rm -rf "$work" && mkdir -p "$work"
 answer=$(oracle/build.sh answer)
+unlimited=$(oracle/build.sh unlimited)
+departs=$(oracle/build.sh departs)
+generate=$(oracle/build.sh generate)
 
 line() {
     printf '%2s%20s%20s%6s\n' "$@"
@@ -21,14 +24,32 @@ agrees() {
     cmp "$work/answered" "$2"
 }
 
-# Usage: holds NAME ANSWER, with a list on standard input: whether the last answer is ANSWER.
-holds() {
-    "$answer" >"$work/answered"
+# Usage: last_is NAME PROGRAM ANSWER, with a list on standard input: whether the last answer is ANSWER.
+last_is() {
+    "$2" >"$work/answered"
     last=$(tail -n 1 "$work/answered")
-    if [ "$last" != "$2" ]; then
-        echo "$1: answered$last, not$2" >&2
+    if [ "$last" != "$3" ]; then
+        echo "$1: answered$last, not$3" >&2
         exit 1
     fi
+}
+
+# Usage: holds NAME ANSWER. The same of the oracle.
+holds() {
+    last_is "$1" "$answer" "$2"
+}
+
+# Usage: parts NAME LINE HERE PUBLISHED, with a list on standard input: whether it leaves demand 2 at LINE, and
+# the last answers of the two builds are these.
+parts() {
+    cat >"$work/parts.calls"
+    leaves=$("$departs" <"$work/parts.calls")
+    if [ "$leaves" != "$2" ]; then
+        echo "$1: it leaves at line $leaves, not $2" >&2
+        exit 1
+    fi
+    last_is "$1, here" "$answer" "$3" <"$work/parts.calls"
+    last_is "$1, as published" "$unlimited" "$4" <"$work/parts.calls"
 }
 
 # Document 01's whole example.
@@ -78,7 +99,6 @@ wide_line 7 0 0 10000000 | holds "a read with a C" " 1 $fresh"
 echo "both widths: agree"
 
 # The same calls in lines of 48 columns, of 50, and of either.
-generate=$(oracle/build.sh generate)
 for stream in realistic wide mixed; do
     "$generate" stream "$stream" >"$work/stream"
     "$answer" <"$work/stream" >"$work/$stream.answers"
@@ -116,13 +136,28 @@ for level in 0 1 3; do
 done
 echo "the sample: agrees at levels 0 to 3"
 
+# Before the line at which a list leaves demand 2 (Q-5) both builds answer the same.
+left=
+for calls in oracle/sample/*.calls; do
+    leaves=$("$departs" <"$calls")
+    "$unlimited" <"$calls" >"$work/published"
+    if [ "$leaves" = 0 ]; then
+        cmp "$work/published" "${calls%.calls}.answers"
+        continue
+    fi
+    left="$left $(basename "$calls" .calls):$leaves"
+    head -n $((leaves - 1)) "$work/published" >"$work/before"
+    head -n $((leaves - 1)) "${calls%.calls}.answers" | cmp - "$work/before"
+done
+echo "the sample: the published build agrees until a list leaves, these at line:$left"
+
 # The examples' answers.
 for list in examples/*.txt; do
     agrees "$answer" "${list%.txt}.answers" <"$list"
 done
 echo "the examples: agree"
 
-# The smallest list of docs/DIFFERENCES.md, 'Departures by request', and the picture there.
+# The smallest lists of docs/DIFFERENCES.md, 'Departures by request', and the picture there.
 {
     line 1 4607182418800017408 0 0
     line 5 0 0 1
@@ -130,7 +165,46 @@ echo "the examples: agree"
     line 5 250000001 1 1
     line 6 4607182418800017408 0 0
 } | holds "the bias as libWebRTC groups it" ' 0 0 1 4607182418800017408 4562254508917369340'
+limit=4831355200913801216
+absent=9218868437227405312
+loss=4576918229304087675
+at_the_limit() {
+    line 1 "$limit" 0 0
+    line 5 0 0 0
+    line 6 "$absent" 0 0
+    line 5 250000001 0 0
+    line 6 "$absent" 0 0
+}
+later() {
+    line 5 600000000 0 0
+    line 6 "$absent" 0 0
+}
+acknowledged() {
+    line 2 4607182418800017408 0 0
+}
+at_the_limit | parts "a rate at the limit" 5 " 0 2 1 $limit $loss" " 0 2 1 4831515200913801216 $loss"
+{
+    at_the_limit
+    later
+} | parts "Decreasing at the limit" 5 " 0 2 1 $limit $loss" " 0 1 1 4831678400913801216 $loss"
+{
+    acknowledged
+    at_the_limit
+    later
+} | parts "one bit/s more at the limit" 6 " 0 2 1 $limit $loss" " 0 1 1 4831515200913801224 $loss"
+{
+    acknowledged
+    at_the_limit
+    line 1 $((limit - 1)) 0 0
+    later
+} | parts "one bit/s more to the limit" 6 " 0 1 1 $limit $loss" " 0 1 1 4831355200913801223 $loss"
 echo "the departures: agree"
+
+# Zero bytes: at every line the limit is published, where as published the rate runs to infinity and to none.
+"$generate" stream infinity | sed '$d' | sed '$d' >"$work/infinity"
+"$answer" <"$work/infinity" | awk -v limit="$limit" '$4 != limit || $3 != 1 { exit 1 }'
+parts "zero bytes" 5 " 0 2 1 $limit $loss" " 0 0 0                   0 $loss" <"$work/infinity"
+echo "zero bytes, $(wc -l <"$work/infinity") lines: the limit is published to the end"
 if command -v python3 >/dev/null 2>&1; then
     oracle/groupings.py check
     echo "the picture: agrees"
@@ -138,12 +212,24 @@ else
     echo "no python3: the picture is skipped"
 fi
 
-# The comparison finds no difference where there is none, and one where there is one.
+# The comparisons find no difference where there is none, and one where there is one.
 compare=$(oracle/build.sh compare)
+# Usage: fails NAME COMMAND.. Whether the command ends with 1.
+fails() {
+    name=$1 code=0
+    shift
+    "$@" >/dev/null 2>&1 || code=$?
+    if [ "$code" != 1 ]; then
+        echo "$name misses a difference: status $code" >&2
+        exit 1
+    fi
+}
 "$compare" 500 1 -- "$answer"
-code=0
-"$compare" 500 1 -- sed 's/1$/2/' >/dev/null || code=$?
-if [ "$code" != 1 ]; then
-    echo "the comparison misses a difference: status $code" >&2
-    exit 1
-fi
+fails "the comparison" "$compare" 500 1 -- sed 's/1$/2/'
+"$compare" --published "$unlimited" 500 1 -- "$answer"
+fails "the comparison with the published build" "$compare" --published "$unlimited" 500 1 -- sed 's/1$/2/'
+fails "the comparison with the departed build" "$compare" --published "$unlimited" 500 1 -- "$unlimited"
+oracle/both-builds.sh crates/answer/stdin cat crates/answer/stdout
+fails "oracle/both-builds.sh, from where a list leaves" oracle/both-builds.sh crates/answer/stdin "$unlimited"
+fails "oracle/both-builds.sh, before a list leaves" oracle/both-builds.sh crates/answer/stdin sed '1s/.$/x/' crates/answer/stdout
+fails "oracle/both-builds.sh, of a list that stays" oracle/both-builds.sh examples/logarithm_triples_rate.txt sed '1s/.$/x/' examples/logarithm_triples_rate.answers

@@ -9,6 +9,7 @@ mod answer_line;
 mod bandwidth;
 mod bwe;
 mod instant;
+mod limit;
 mod line;
 mod stream;
 

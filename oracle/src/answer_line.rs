@@ -23,7 +23,8 @@ impl Answer {
     }
 }
 
-fn right_justify(mut value: u64, column: &mut [u8]) {
+/// A number at the end of a column that has room for it, spaces before it.
+pub fn right_justify(mut value: u64, column: &mut [u8]) {
     let mut place = column.len();
     loop {
         place -= 1;

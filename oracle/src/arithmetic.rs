@@ -1,11 +1,11 @@
 //! Writes a list of calls on `Bitrate`, `DataSize`, times and f64, and the answer to each: 7 and zero
 //! where document 01 refuses the call, else 0 and what the published Rust answers. Standard error
-//! gets what the Rust does where document 01 refuses. See README.md.
+//! gets what the Rust does where document 01 refuses, and how many rates are limited. See README.md.
 
 use std::fmt::Write;
+use std::io;
 use std::panic;
 use std::process::ExitCode;
-use std::{env, fs, io};
 
 #[path = "../vendor/bandwidth.rs"]
 #[rustfmt::skip]
@@ -17,16 +17,21 @@ mod edges;
 #[path = "arithmetic/findings.rs"]
 mod findings;
 mod instant;
+#[cfg_attr(unlimited, path = "no_limit.rs")]
+mod limit;
+#[allow(dead_code)]
+mod no_limit;
 #[path = "arithmetic/operations.rs"]
 mod operations;
 mod random;
+mod replay_files;
 #[path = "arithmetic/rules.rs"]
 mod rules;
 #[path = "arithmetic/times.rs"]
 mod times;
 
 use findings::Findings;
-use operations::{all, find, Operands, Operation, TWINS};
+use operations::{all, find, float, Operands, Operation, TWINS};
 
 const _: () = assert!(usize::BITS == 64, "document 01's usize has 64 bits");
 
@@ -34,12 +39,18 @@ const _: () = assert!(usize::BITS == 64, "document 01's usize has 64 bits");
 struct Replay {
     calls: String,
     answers: String,
+    lines: usize,
+    left: Vec<usize>,
     findings: Findings,
 }
 
 impl Replay {
     fn add(&mut self, operation: &Operation, operands: Operands) {
+        limit::changed();
         let rust = run(operation, operands);
+        if limit::changed() {
+            self.limited(operation, operands);
+        }
         let (refusal, result) = match (operation.rule.reason(operands), rust) {
             (None, Some(result)) => (0, result),
             (None, None) => {
@@ -55,6 +66,18 @@ impl Replay {
         self.write(operation.number, operands, refusal, result);
     }
 
+    /// A call whose answer the limit changed (request Q-5).
+    fn limited(&mut self, operation: &Operation, operands: Operands) {
+        let [a, b, _] = operands.map(float);
+        let published = match operation.number {
+            0x23 => no_limit::product(a, b),
+            0x25 => no_limit::sum(a, b),
+            _ => return self.findings.fault(operation, operands, "limited"),
+        };
+        self.findings.limited(operation, operands, published.to_bits());
+        self.left.push(self.lines + 1);
+    }
+
     fn compare_twins(&mut self, operation: &Operation, operands: Operands, rust: Option<u64>) {
         for &(number, twin) in TWINS {
             if number == operation.number && rust != run(find(twin), operands) {
@@ -66,6 +89,7 @@ impl Replay {
     fn write(&mut self, number: u8, [a, b, c]: Operands, refusal: u8, result: u64) {
         writeln!(self.calls, "{number:02x} {a:016x} {b:016x} {c:016x}").expect("a String grows");
         writeln!(self.answers, "{refusal} {result:016x}").expect("a String grows");
+        self.lines += 1;
     }
 }
 
@@ -89,18 +113,16 @@ fn replay() -> Replay {
 }
 
 fn main() -> io::Result<ExitCode> {
-    let paths: Vec<String> = env::args().skip(1).collect();
-    let [calls, answers] = paths.as_slice() else {
-        eprintln!("usage: arithmetic CALLS ANSWERS");
+    let Some(files) = replay_files::Files::named() else {
+        eprintln!("usage: arithmetic CALLS ANSWERS [LEFT]");
         return Ok(ExitCode::from(2));
     };
     let replay = replay();
-    eprintln!("{} calls", replay.calls.lines().count());
+    eprintln!("{} calls", replay.lines);
     eprint!("{}", replay.findings);
     if replay.findings.has_faults() {
         return Ok(ExitCode::FAILURE);
     }
-    fs::write(calls, replay.calls)?;
-    fs::write(answers, replay.answers)?;
+    files.write(&replay.calls, &replay.answers, &replay.left)?;
     Ok(ExitCode::SUCCESS)
 }

@@ -4,7 +4,7 @@
 use std::fmt::Write;
 use std::ops::Range;
 use std::process::ExitCode;
-use std::{env, fs, io, mem};
+use std::{io, mem};
 
 #[allow(dead_code)]
 mod answer_line;
@@ -16,11 +16,14 @@ mod bwe;
 mod instant;
 #[allow(dead_code)]
 mod kinds;
+#[cfg_attr(unlimited, path = "no_limit.rs")]
+mod limit;
 #[allow(dead_code)]
 mod line;
 #[allow(dead_code)]
 mod list;
 mod random;
+mod replay_files;
 mod tie;
 
 use answer_line::Answer;
@@ -53,6 +56,9 @@ const WIDE_LISTS: &[(&str, &[Range<u64>])] = &[
     ("mixed", &[1..4]),
     ("wide-asides", &[10..12, 18..19]),
 ];
+
+/// The same for lists about the limit of rates.
+const LIMIT_LISTS: &[(&str, &[Range<u64>])] = &[("limit", &[63..64, 78..79, 80..81])];
 
 /// A list of `examples/` on which the Rust's grouping of the bias publishes another rate.
 const GROUPING: &[u8] = include_bytes!("../../examples/grouping_keeps_8200_bit.txt");
@@ -148,6 +154,9 @@ fn sequences() -> Vec<Vec<Line>> {
         all.push(sequence(&list, &mut random, (3, refused_among_frames)));
     }
     all.push(large_sums());
+    for list in lists(LIMIT_LISTS) {
+        all.push(sequence(&list, &mut random, (11, refused)));
+    }
     all
 }
 
@@ -284,6 +293,8 @@ struct Counts {
     unpublished: u64,
     longer_holds: u64,
     longest_holds: u64,
+    sequences: u64,
+    left: u64,
 }
 
 impl Counts {
@@ -300,6 +311,7 @@ impl Counts {
 
     fn show(&self) {
         eprintln!("calls {}, observations completed {}", self.calls, self.observations);
+        eprintln!("sequences {}, in {} the limit changed a result", self.sequences, self.left);
         for code in (1..CODES).filter(|&code| self.refusals[code] != 0) {
             let (all, reports) = (self.refusals[code], self.refused_reports[code]);
             eprintln!("refusal {code}: {all}, of reports {reports}");
@@ -326,15 +338,19 @@ fn write_answer(text: &mut String, answer: &Answer, reads: &Reads) {
 }
 
 fn main() -> io::Result<ExitCode> {
-    let paths: Vec<String> = env::args().skip(1).collect();
-    let [calls, answers] = paths.as_slice() else {
-        eprintln!("usage: calls CALLS ANSWERS");
+    let Some(files) = replay_files::Files::named() else {
+        eprintln!("usage: calls CALLS ANSWERS [LEFT]");
         return Ok(ExitCode::from(2));
     };
     let (mut lines, mut answered) = (String::new(), String::new());
     let mut oracle = Oracle::new();
     let mut counts = Counts::default();
-    for sequence in sequences() {
+    let (mut calls, mut left) = (0, vec![]);
+    let sequences = sequences();
+    // What was changed before, by their making.
+    limit::changed();
+    for sequence in sequences {
+        let mut has_left = false;
         for call in sequence {
             let before = oracle.program.reads();
             let answer = oracle.answer(call);
@@ -342,10 +358,16 @@ fn main() -> io::Result<ExitCode> {
             counts.add(call, &answer, &before, &after);
             write_call(&mut lines, call);
             write_answer(&mut answered, &answer, &after);
+            calls += 1;
+            has_left |= limit::changed();
+            if has_left {
+                left.push(calls);
+            }
         }
+        counts.sequences += 1;
+        counts.left += u64::from(has_left);
     }
     counts.show();
-    fs::write(calls, lines)?;
-    fs::write(answers, answered)?;
+    files.write(&lines, &answered, &left)?;
     Ok(ExitCode::SUCCESS)
 }

@@ -1,13 +1,16 @@
 //! Runs a program on fresh call lists beside the oracle and compares every byte. The first
-//! difference is shrunk to a short list and printed. Usage: compare [--rewrite] [LISTS [SEED]] -- COMMAND..
-//! With --rewrite the program is one that writes the lists anew, as `rewrite` does.
+//! difference is shrunk to a short list and printed.
+//! Usage: compare [--rewrite | --published FILE] [LISTS [SEED]] -- COMMAND..
+//! With --rewrite the program is one that writes the lists anew, as `rewrite` does. With --published the part
+//! of a list before it leaves demand 2 (request Q-5) is compared with what the program FILE, `unlimited`,
+//! answers, and the rest with the oracle.
 //!
 //! Exit status: 0 if all agree, 1 if a list differs, 2 if the comparison cannot be made.
 
 use std::env;
 use std::io::{self, Write};
 use std::process::{Command, ExitCode, Stdio};
-use std::thread;
+use std::{slice, thread};
 
 mod answer_line;
 #[path = "../vendor/bandwidth.rs"]
@@ -19,6 +22,7 @@ mod call_line;
 mod instant;
 #[allow(dead_code)]
 mod kinds;
+mod limit;
 mod line;
 #[allow(dead_code)]
 mod list;
@@ -27,43 +31,90 @@ mod shrink;
 mod stream;
 mod tie;
 
+use answer_line::ANSWER_LENGTH;
+
 struct Settings {
     lists: u64,
     seed: u64,
     command: Vec<String>,
-    oracle: fn(&[u8]) -> Vec<u8>,
+    published: Option<String>,
+    oracle: fn(&[u8]) -> Expected,
+}
+
+/// What a program has to print, and how many lines come before the list leaves demand 2, if it does.
+struct Expected {
+    text: Vec<u8>,
+    before: Option<usize>,
 }
 
 fn settings() -> Option<Settings> {
     let arguments: Vec<String> = env::args().skip(1).collect();
     let split = arguments.iter().position(|argument| argument == "--")?;
-    let (numbers, oracle): (_, fn(&[u8]) -> Vec<u8>) = match &arguments[..split] {
-        [option, numbers @ ..] if option == "--rewrite" => (numbers, rewritten),
-        numbers => (numbers, answered),
+    let command = arguments[split + 1..].to_vec();
+    let mut settings =
+        Settings { lists: 1_000, seed: 1, command, published: None, oracle: answered };
+    let numbers = match &arguments[..split] {
+        [option, numbers @ ..] if option == "--rewrite" => {
+            settings.oracle = rewritten;
+            numbers
+        }
+        [option, file, numbers @ ..] if option == "--published" => {
+            settings.published = Some(file.clone());
+            numbers
+        }
+        numbers => numbers,
     };
     let numbers: Result<Vec<u64>, _> = numbers.iter().map(|text| text.parse()).collect();
-    let (lists, seed) = match *numbers.ok()? {
-        [] => (1_000, 1),
-        [lists] => (lists, 1),
-        [lists, seed] => (lists, seed),
+    match *numbers.ok()? {
+        [] => {}
+        [lists] => settings.lists = lists,
+        [lists, seed] => (settings.lists, settings.seed) = (lists, seed),
         _ => return None,
-    };
-    let command = arguments[split + 1..].to_vec();
+    }
     // A comparison of no list would always agree.
-    (lists != 0 && !command.is_empty()).then_some(Settings { lists, seed, command, oracle })
+    (settings.lists != 0 && !settings.command.is_empty()).then_some(settings)
 }
 
-fn answered(list: &[u8]) -> Vec<u8> {
+fn answered(list: &[u8]) -> Expected {
     let mut program = bwe::call_list::Program::new();
-    let mut out = vec![];
-    stream::run(list, &mut out, |line| program.answer(line)).expect("a Vec grows");
-    out
+    let mut text = vec![];
+    let (mut lines, mut before) = (0, None);
+    // What was changed before, by the list's making.
+    limit::changed();
+    let answer = |line: &[u8]| {
+        let answer = program.answer(line);
+        if limit::changed() && before.is_none() {
+            before = Some(lines);
+        }
+        lines += 1;
+        answer
+    };
+    stream::run(list, &mut text, answer).expect("a Vec grows");
+    Expected { text, before }
 }
 
-fn rewritten(list: &[u8]) -> Vec<u8> {
-    let mut out = vec![];
-    stream::run(list, &mut out, line::read).expect("a Vec grows");
-    out
+fn rewritten(list: &[u8]) -> Expected {
+    let mut text = vec![];
+    stream::run(list, &mut text, line::read).expect("a Vec grows");
+    Expected { text, before: None }
+}
+
+/// The oracle's text, with the published build's up to where the list leaves.
+fn expected(settings: &Settings, list: &[u8]) -> io::Result<Expected> {
+    let Expected { text, before } = (settings.oracle)(list);
+    let Some(published) = &settings.published else {
+        return Ok(Expected { text, before });
+    };
+    let mut joined = run(slice::from_ref(published), list)?;
+    if joined.len() != text.len() {
+        return Err(io::Error::other(format!("{published}: not the published build's answers")));
+    }
+    if let Some(lines) = before {
+        let end = lines * (ANSWER_LENGTH + 1);
+        joined.truncate(end);
+        joined.extend_from_slice(&text[end..]);
+    }
+    Ok(Expected { text: joined, before })
 }
 
 /// What the command prints for a list; a failure is an answer too, and a wrong one.
@@ -72,7 +123,8 @@ fn run(command: &[String], list: &[u8]) -> io::Result<Vec<u8>> {
         .args(&command[1..])
         .stdin(Stdio::piped())
         .stdout(Stdio::piped())
-        .spawn()?;
+        .spawn()
+        .map_err(|error| io::Error::other(format!("{}: {error}", command[0])))?;
     let mut stdin = child.stdin.take().expect("a piped stdin");
     let text = list.to_vec();
     // A program that ends early closes the pipe; its output tells.
@@ -87,7 +139,34 @@ fn run(command: &[String], list: &[u8]) -> io::Result<Vec<u8>> {
 }
 
 fn differs(settings: &Settings, list: &[u8]) -> io::Result<bool> {
-    Ok(run(&settings.command, list)? != (settings.oracle)(list))
+    Ok(run(&settings.command, list)? != expected(settings, list)?.text)
+}
+
+/// How many lines were compared, before and after their lists left, and how many lists left.
+#[derive(Default)]
+struct Counts {
+    before: usize,
+    after: usize,
+    left: usize,
+}
+
+impl Counts {
+    fn add(&mut self, list: &[u8], before: Option<usize>) {
+        let lines = list.iter().filter(|&&byte| byte == b'\n').count();
+        let inside = before.unwrap_or(lines);
+        self.before += inside;
+        self.after += lines - inside;
+        self.left += usize::from(before.is_some());
+    }
+
+    fn show(&self, settings: &Settings) {
+        let Counts { before, after, left } = self;
+        let (lists, seed) = (settings.lists, settings.seed);
+        println!("{lists} lists from seed {seed}, {} lines: no difference", before + after);
+        if settings.published.is_some() {
+            println!("{before} lines as the published build, {after} as the departed one; {left} lists leave");
+        }
+    }
 }
 
 fn show(what: &str, text: &[u8]) {
@@ -99,34 +178,44 @@ fn show(what: &str, text: &[u8]) {
 }
 
 fn compare(settings: &Settings) -> io::Result<bool> {
-    let mut lines = 0;
+    let mut counts = Counts::default();
     for seed in settings.seed..settings.seed + settings.lists {
         let (kind, list) = kinds::any(seed);
-        lines += list.iter().filter(|&&byte| byte == b'\n').count();
-        if !differs(settings, &list)? {
+        let wanted = expected(settings, &list)?;
+        counts.add(&list, wanted.before);
+        if run(&settings.command, &list)? == wanted.text {
             continue;
         }
         println!("a difference: generate {kind} {seed}");
         let short = shrink::shrink(&list, |list| differs(settings, list))?;
         show("shortest list found", &short);
-        show("the oracle's answers", &(settings.oracle)(&short));
+        show_expected(settings, &expected(settings, &short)?);
         show("the command's answers", &run(&settings.command, &short)?);
         return Ok(false);
     }
-    println!("{} lists from seed {}, {lines} lines: no difference", settings.lists, settings.seed);
+    counts.show(settings);
     Ok(true)
+}
+
+fn show_expected(settings: &Settings, expected: &Expected) {
+    show("the oracle's answers", &expected.text);
+    match (&settings.published, expected.before) {
+        (None, _) => {}
+        (_, None) => println!("all of them the published build's"),
+        (_, Some(lines)) => println!("after {lines} lines the departed build's"),
+    }
 }
 
 fn main() -> ExitCode {
     let Some(settings) = settings() else {
-        eprintln!("usage: compare [--rewrite] [LISTS [SEED]] -- COMMAND..");
+        eprintln!("usage: compare [--rewrite | --published FILE] [LISTS [SEED]] -- COMMAND..");
         return ExitCode::from(2);
     };
     match compare(&settings) {
         Ok(true) => ExitCode::SUCCESS,
         Ok(false) => ExitCode::FAILURE,
         Err(error) => {
-            eprintln!("{}: {error}", settings.command[0]);
+            eprintln!("{error}");
             ExitCode::from(2)
         }
     }

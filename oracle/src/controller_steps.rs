@@ -3,7 +3,7 @@
 
 use std::fmt::Write;
 use std::process::ExitCode;
-use std::{env, fs, io, panic};
+use std::{io, panic};
 
 #[path = "../vendor/bandwidth.rs"]
 #[rustfmt::skip]
@@ -14,14 +14,19 @@ mod answer_line;
 #[allow(dead_code)]
 mod bwe;
 mod instant;
+#[cfg_attr(unlimited, path = "no_limit.rs")]
+mod limit;
 #[allow(dead_code)]
 mod line;
 mod random;
+mod replay_files;
 
 use bwe::loss_controller::LossController;
 use random::Random;
 
 const STATES: usize = 1_500;
+/// States about the limit of rates (request Q-5), after the others.
+const LIMIT_STATES: usize = 100;
 const SEED: u64 = 6;
 
 /// 250 ms is the span that an observation must exceed, 300 ms the recovery window and the first hold.
@@ -34,6 +39,7 @@ struct States {
     base: u64,
     rate: f64,
     plain: bool,
+    about_the_limit: bool,
 }
 
 impl States {
@@ -42,6 +48,9 @@ impl States {
     fn rate(&mut self) -> u64 {
         const ODD: &[f64] =
             &[f64::INFINITY, f64::NEG_INFINITY, f64::NAN, 0.0, -0.5, -1.0, -3.0e5, 5e-324, 1e300];
+        if self.about_the_limit && self.random.below(3) != 0 {
+            return self.limit_rate().to_bits();
+        }
         let rate = match self.random.below(if self.plain { 8 } else { 16 }) {
             0..=2 => self.rate,
             3 => self.rate * 1.3,
@@ -53,6 +62,20 @@ impl States {
             _ => self.rate * (0.9 + self.random.fraction() / 5.0),
         };
         rate.to_bits()
+    }
+
+    /// The limit, the floats next to it, rates that a factor of the settings brings to it, rates beyond it, up to
+    /// where a factor overflows, and those that are not finite.
+    fn limit_rate(&mut self) -> f64 {
+        const LIMIT: f64 = 1e15;
+        const FACTORS: &[f64] = &[1.02, 1.2, 1.3, 1.5, 60.0];
+        const BEYOND: &[f64] = &[1e300, f64::MAX, f64::INFINITY, f64::NAN, -1e300];
+        match self.random.below(5) {
+            0 => f64::from_bits(LIMIT.to_bits() - 2 + self.random.below(5)),
+            1 => LIMIT / self.random.pick(FACTORS),
+            2 => LIMIT,
+            _ => self.random.pick(BEYOND),
+        }
     }
 
     fn option_rate(&mut self) -> [u64; 2] {
@@ -159,8 +182,10 @@ impl States {
 }
 
 fn states() -> Vec<Vec<u64>> {
-    let mut states = States { random: Random::new(SEED), base: 0, rate: 0.0, plain: true };
-    let next = |_| {
+    let random = Random::new(SEED);
+    let mut states = States { random, base: 0, rate: 0.0, plain: true, about_the_limit: false };
+    let next = |number| {
+        states.about_the_limit = number >= STATES;
         states.plain = states.random.below(3) != 0;
         let magnitude = states.random.pick(&[1e3, 1e4, 1e5, 1e6, 1e7]);
         states.rate = (magnitude * (1.0 + 9.0 * states.random.fraction())).floor();
@@ -169,7 +194,22 @@ fn states() -> Vec<Vec<u64>> {
         states.base = if late { u64::MAX - 1_000_000_000 } else { states.random.bits() >> 4 };
         states.state()
     };
-    (0..STATES).map(next).collect()
+    (0..STATES + LIMIT_STATES).map(next).chain([below_every_rate()]).collect()
+}
+
+/// A state whose bound of candidates is minus infinity, where the limit still cuts one: the acknowledged rate is
+/// far below 0, and 60 s after the last reduction the bound gets 60 times it.
+fn below_every_rate() -> Vec<u64> {
+    const TIME: u64 = 60_000_000_000;
+    const ABSENT: u64 = f64::INFINITY.to_bits();
+    let mut fields = vec![0, 1, 0, 0, 0, 0, 1, TIME, 0, 0];
+    fields.extend([0, 0, 0, 0, f64::NEG_INFINITY.to_bits()].repeat(15));
+    fields.extend([0.01, 1e300].map(f64::to_bits));
+    fields.extend([0, 0, 300_000_000, ABSENT]);
+    fields.extend([1, 0, 0, 0, ABSENT]);
+    fields.extend([-1.7e308, 1.7e308].map(f64::to_bits));
+    fields.extend([0, 0, 0, 0, 0, TIME]);
+    fields
 }
 
 fn write_line(text: &mut String, fields: &[u64]) {
@@ -180,18 +220,23 @@ fn write_line(text: &mut String, fields: &[u64]) {
 }
 
 fn main() -> io::Result<ExitCode> {
-    let paths: Vec<String> = env::args().skip(1).collect();
-    let [calls, answers] = paths.as_slice() else {
-        eprintln!("usage: controller_steps STATES ANSWERS");
+    let Some(files) = replay_files::Files::named() else {
+        eprintln!("usage: controller_steps STATES ANSWERS [LEFT]");
         return Ok(ExitCode::from(2));
     };
     panic::set_hook(Box::new(|_| {}));
     let (mut lines, mut answered) = (String::new(), String::new());
+    let (mut states_in_all, mut left) = (0, vec![]);
     for state in states() {
         write_line(&mut lines, &state);
         write_line(&mut answered, &LossController::step_answers(&state));
+        states_in_all += 1;
+        if limit::changed() {
+            left.push(states_in_all);
+        }
     }
-    fs::write(calls, lines)?;
-    fs::write(answers, answered)?;
+    let limited = left.len();
+    eprintln!("{states_in_all} states, in {limited} of which the limit changed a result");
+    files.write(&lines, &answered, &left)?;
     Ok(ExitCode::SUCCESS)
 }

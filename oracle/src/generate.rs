@@ -14,6 +14,7 @@ mod bwe;
 mod instant;
 #[allow(dead_code)]
 mod kinds;
+mod limit;
 mod line;
 mod list;
 mod random;

@@ -15,6 +15,8 @@ mod frames;
 mod fresh;
 #[path = "kinds/hold.rs"]
 mod hold;
+#[path = "kinds/limit.rs"]
+mod limit;
 #[path = "kinds/link.rs"]
 mod link;
 #[path = "kinds/mixed.rs"]
@@ -39,7 +41,11 @@ pub const KINDS: &[(&str, &str, Make)] = &[
     ("queue", "4,096 and 4,097 packets", corners::queue),
     ("ties", "choices that hang on one rounding", ties::ties),
     ("targets", "situations that random lists seldom meet, twelve by number", targets::targets),
-    ("runaway", "zero bytes drive the rate above 2^64", targets::runaway),
+    (
+        "runaway",
+        "zero bytes drive the rate to its limit, and without it above 2^64",
+        targets::runaway,
+    ),
     ("damaged", "lines out of shape among good ones", damaged::damaged),
     ("fresh", "what only a fresh controller shows", fresh::fresh),
     ("single", "one packet per observation", link::single),
@@ -64,6 +70,7 @@ pub const KINDS: &[(&str, &str, Make)] = &[
     ("full", "10^12 running bytes of frames, more, and on after the refusal", frames::full),
     ("wide-chunks", "wide lines, with line ends about every 65,536th byte", corners::wide_chunks),
     ("wide-asides", "packets that are too large, where every field counts", asides::wide_asides),
+    ("limit", "rates about the limit of 10^15 bit/s, of either width", limit::limit),
 ];
 
 /// The first kind that knows wide lines.
@@ -83,7 +90,8 @@ pub fn make(name: &str, seed: u64) -> Option<Vec<u8>> {
     Some(list.text)
 }
 
-/// Lists of all kinds in turn, a third of them with wide lines; the long and always equal ones come seldom.
+/// Lists of all kinds in turn, a third of them with wide lines; the long and always equal ones and those that
+/// leave demand 2 come seldom.
 pub fn any(seed: u64) -> (&'static str, Vec<u8>) {
     let turn = [
         "dense", "sparse", "frames", "hold", "wild", "mixed", "ties", "small", "frames", "sparse",
@@ -91,6 +99,7 @@ pub fn any(seed: u64) -> (&'static str, Vec<u8>) {
     ];
     let name = match seed % 100 {
         99 => "queue",
+        24 | 49 | 74 | 98 => "limit",
         other => turn[other as usize % turn.len()],
     };
     (name, make(name, seed).expect("a kind's name"))

@@ -15,6 +15,7 @@ mod answer_line;
 mod bandwidth;
 mod bwe;
 mod instant;
+mod limit;
 #[allow(dead_code)]
 mod line;
 mod platform_bwe;

@@ -2,6 +2,7 @@
 
 use std::io::{self, Write};
 
+use crate::answer_line::right_justify;
 use crate::line::NARROW;
 use crate::random::Random;
 use crate::tie::text;
@@ -12,7 +13,12 @@ pub const STREAMS: &[(&str, &str, Stream)] = &[
     ("bytes", "10^12 running bytes, one more, and on after the refusal (15 million lines)", bytes),
     ("packets", "10^9 running packets and one more (10^9 lines)", packets),
     ("count", "10^9 observations and one more (2 x 10^9 lines)", count),
-    ("infinity", "zero bytes drive the rate to infinity (68,000 lines)", infinity),
+    (
+        "infinity",
+        "zero bytes drive the rate to 10^15, and without the limit to infinity (68,000 lines)",
+        infinity,
+    ),
+    ("six-hours", "six hours without loss and without a delay estimate (860,000 lines)", six_hours),
     ("realistic", "dense lists end to end, two million lines", realistic),
     ("wide", "the calls of realistic in wide lines", |out| realistic_in(out, widened)),
     ("mixed", "the same with each line's width at random", |out| realistic_in(out, either_width)),
@@ -38,7 +44,12 @@ pub fn write(name: &str, out: &mut impl Write) -> io::Result<()> {
 }
 
 fn call(out: &mut dyn Write, kind: u64, a: u64, b: u64, c: u64) -> io::Result<()> {
-    writeln!(out, "{}", text(&[kind, a, b, c]))
+    let mut line = [b'\n'; NARROW + 1];
+    right_justify(kind, &mut line[..2]);
+    right_justify(a, &mut line[2..22]);
+    right_justify(b, &mut line[22..42]);
+    right_justify(c, &mut line[42..NARROW]);
+    out.write_all(&line)
 }
 
 fn estimate(out: &mut dyn Write, rate: f64) -> io::Result<()> {
@@ -132,6 +143,21 @@ fn infinity(out: &mut dyn Write) -> io::Result<()> {
     }
     estimate(out, 1e15)?;
     report(out)
+}
+
+/// Thirty packets and ten reports a second, so that every third report completes an observation.
+fn six_hours(out: &mut dyn Write) -> io::Result<()> {
+    const MS: u64 = 1_000_000;
+    let mut random = Random::new(1);
+    estimate(out, 1e6)?;
+    for tenth in 0..6 * 3_600 * 10 {
+        for place in [0, 33, 67] {
+            let time = (tenth * 100 + place) * MS + random.below(5 * MS);
+            packet(out, time, 900 + random.below(300))?;
+        }
+        call(out, 6, f64::INFINITY.to_bits(), 0, 0)?;
+    }
+    Ok(())
 }
 
 fn realistic(out: &mut dyn Write) -> io::Result<()> {

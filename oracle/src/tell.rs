@@ -12,6 +12,7 @@ mod answer_line;
 mod bandwidth;
 mod bwe;
 mod instant;
+mod limit;
 #[allow(dead_code)]
 mod line;
 #[allow(dead_code)]

@@ -10,6 +10,7 @@ mod bandwidth;
 #[allow(dead_code)]
 mod bwe;
 mod instant;
+mod limit;
 #[allow(dead_code)]
 mod line;
 #[allow(dead_code)]

@@ -494,7 +494,8 @@ impl LossController {
         let current = self.current_estimate.loss_limited_bandwidth;
 
         for factor in self.config.candidate_factor.iter() {
-            bandwidths.push(factor * current.as_f64());
+            // EDIT 13: factor * current.as_f64(), limited (request Q-5).
+            bandwidths.push(crate::limit::product(*factor, current.as_f64()));
         }
 
         if self.delay_based_estimate.is_valid()
@@ -530,14 +531,17 @@ impl LossController {
             candidate.loss_limited_bandwidth = if self.config.trendline_integration_enabled {
                 bandwidth.min(candidate_bandwidth_upper_bound).into()
             } else {
-                bandwidth
-                    .min(
+                // EDIT 14: what the bound leaves of the rate, limited (request Q-5).
+                crate::limit::candidate(
+                    *bandwidth,
+                    bandwidth.min(
                         self.current_estimate
                             .loss_limited_bandwidth
                             .as_f64()
                             .max(candidate_bandwidth_upper_bound),
-                    )
-                    .into()
+                    ),
+                )
+                .into()
             };
             candidate.inherent_loss = self.get_feasible_inherent_loss(&candidate);
             candidates.push(candidate);

@@ -146,6 +146,8 @@ const SECOND: u64 = 1_000_000_000;
 fn chosen(number: u8) -> Vec<Operands> {
     match number {
         0x22 => [edge_bytes(), half_bytes()].concat(),
+        0x23 => edges::pairs(&edges::limit_rates(), &edges::limit_factors()),
+        0x25 => edges::pairs(&edges::limit_rates(), &edges::limit_terms()),
         0x4C => [edge_sizes(), vec![[125_000, 500 * MILLISECOND, 0]]].concat(),
         0xA3 => seconds(),
         _ => Vec::new(),

@@ -72,6 +72,41 @@ fn float_pairs() -> Vec<u64> {
     [ordinary, smallest, largest, nans].concat()
 }
 
+/// Where the limit of rates (request Q-5) begins: the products and sums of these with the factors and terms
+/// below lie on it, one float above and below it, overflow, are negative, or have an operand that is not
+/// finite.
+pub fn limit_rates() -> Vec<f64> {
+    let mut rates = vec![0.0, 1.0, 0.5e15, f64::MAX, f64::INFINITY, f64::NAN];
+    for x in [1e15, 1e15 / 1.02, 1e15 / 1.3, 1e15 / 60.0] {
+        rates.extend(with_neighbours(x));
+    }
+    rates.extend([1e15 - 1.0, 1e15 + 1.0, 1e300]);
+    let negative: Vec<f64> = rates.iter().map(|x| -x).collect();
+    [rates, negative].concat()
+}
+
+pub fn limit_factors() -> Vec<f64> {
+    let factors = [0.0, 0.95, 1.02, 1.2, 1.3, 1.5, 2.0, 60.0, 1e15, 1e300, f64::MAX, f64::INFINITY];
+    let positive = [&factors[..], &with_neighbours(1.0)].concat();
+    let negative = positive.iter().map(|x| -x);
+    positive.iter().copied().chain(negative).chain([f64::NAN]).collect()
+}
+
+/// A float at 10^15 is 1/8 from the next.
+pub fn limit_terms() -> Vec<f64> {
+    let small = [0.0, 0.0625, 0.0625_f64.next_up(), 0.125, 1.0, 0.5e15];
+    let large = [1e300, f64::MAX, f64::INFINITY];
+    let positive = [&small[..], &with_neighbours(0.5e15), &with_neighbours(1e15), &large].concat();
+    let negative = positive.iter().map(|x| -x);
+    positive.iter().copied().chain(negative).chain([f64::NAN]).collect()
+}
+
+/// All calls with an operand of the first and one of the second, in either order.
+pub fn pairs(first: &[f64], second: &[f64]) -> Vec<[u64; 3]> {
+    let both = |a: f64| second.iter().flat_map(move |&b| [[a, b], [b, a]]);
+    first.iter().flat_map(|&a| both(a)).map(|[a, b]| [a.to_bits(), b.to_bits(), 0]).collect()
+}
+
 fn float_triples() -> Vec<u64> {
     let numbers = bits_of(&[-1.0, -0.0, 0.0, SMALLEST, 1.0, 1e3, TWO_53]);
     let infinities = bits_of(&[f64::NEG_INFINITY, f64::INFINITY]);

@@ -1,5 +1,7 @@
-//! What the published Rust does where document 01 refuses, counted by operation and reason.
+//! What the published Rust does where document 01 refuses, counted by operation and reason, and what it answers
+//! where a rate is limited (request Q-5).
 
+use std::cmp::Reverse;
 use std::collections::BTreeMap;
 use std::fmt;
 
@@ -8,6 +10,7 @@ use crate::operations::{find, Kind, Operands, Operation};
 #[derive(Default)]
 pub struct Findings {
     refused: BTreeMap<(u8, &'static str), Refused>,
+    limited: BTreeMap<u8, Limited>,
     faults: Vec<String>,
 }
 
@@ -19,7 +22,25 @@ struct Refused {
     smallest: Option<(Operands, u64)>,
 }
 
+/// The lines of one operation that the limit changed, and of those whose operands lie from 0 to it the one whose
+/// published answer is the least, with the largest first operand.
+#[derive(Default)]
+struct Limited {
+    answers: usize,
+    least: Option<(u64, Reverse<Operands>)>,
+}
+
 impl Findings {
+    /// A call whose answer is limited, with the published Rust's.
+    pub fn limited(&mut self, operation: &Operation, operands: Operands, published: u64) {
+        let limited = self.limited.entry(operation.number).or_default();
+        limited.answers += 1;
+        if operands.iter().all(|&operand| (0.0..=1e15).contains(&f64::from_bits(operand))) {
+            let call = (published, Reverse(operands));
+            limited.least = Some(limited.least.map_or(call, |least| least.min(call)));
+        }
+    }
+
     /// A refused call, with the answer of the Rust or None for a panic.
     pub fn refused(
         &mut self,
@@ -78,6 +99,17 @@ impl fmt::Display for Findings {
             write!(f, "{number:02x} {name:<24} {reason:<30} {panics:>6} {answers:>7}")?;
             if let Some(([a, b, c], answer)) = refused.smallest {
                 write!(f, "  {a:016x} {b:016x} {c:016x}: {answer:016x}")?;
+            }
+            writeln!(f)?;
+        }
+        writeln!(
+            f,
+            "Limited to 10^15 bit/s (Q-5), and the least that the published Rust answers there:"
+        )?;
+        for (&number, Limited { answers, least }) in &self.limited {
+            write!(f, "{number:02x} {:<24} {answers:>6}", find(number).name)?;
+            if let Some((published, Reverse([a, b, _]))) = least {
+                write!(f, "  {a:016x} {b:016x}: {published:016x}")?;
             }
             writeln!(f)?;
         }

@@ -1,5 +1,6 @@
-//! Answers the call list on standard input with `f64::ln` and `f64::powi`, as the published Rust does.
-//! What it answers depends on the platform and on the optimisation level; see README.md.
+//! Answers the call list on standard input with `f64::ln` and `f64::powi`, as the published Rust has them.
+//! Edits and limit are those of `answer`. What it answers depends on the platform and on the optimisation
+//! level; see README.md.
 
 use std::io;
 
@@ -9,6 +10,7 @@ mod answer_line;
 #[allow(dead_code)]
 mod bandwidth;
 mod instant;
+mod limit;
 mod line;
 mod platform_bwe;
 mod stream;

@@ -1,0 +1,32 @@
+//! Prints the number of the first line of the call list on standard input at which the limit of request Q-5
+//! changed a result, inner ones too, or 0 if it changed none. From that line on a list has left demand 2.
+//! Constant memory.
+
+use std::io;
+
+#[allow(dead_code)]
+mod answer_line;
+#[path = "../vendor/bandwidth.rs"]
+#[rustfmt::skip]
+#[allow(dead_code)]
+mod bandwidth;
+mod bwe;
+mod instant;
+mod limit;
+mod line;
+mod stream;
+
+fn main() -> io::Result<()> {
+    let mut program = bwe::call_list::Program::new();
+    let (mut lines, mut first) = (0_u64, 0_u64);
+    stream::run(io::stdin().lock(), io::sink(), |line| {
+        let answer = program.answer(line);
+        lines += 1;
+        if limit::changed() && first == 0 {
+            first = lines;
+        }
+        answer
+    })?;
+    println!("{first}");
+    Ok(())
+}
