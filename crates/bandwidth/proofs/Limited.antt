@@ -2,13 +2,13 @@
 use mathlib.Core.Path.{_≡_, refl}
 use mathlib.Core.Bool.{Bool, true, false, _&&_}
 use lib.Dec.{T}
-use lib.Ieee.{Float, inf, fin, binary64, isNan, lt, ofBits}
+use lib.Ieee.{Float, binary64, lt, ofBits}
 use lib.Ieee.Bits.{ofBits-fits}
 use lib.Ieee.Fits.{and-i, add-fits, mul-fits}
 use lib.Ieee.Scale.{finite}
 use Rattle.float.proofs.AtMost.{at-most-finite, below-at-most, minimum-at-most}
 use Rattle.float.proofs.Extremes.{minimum-by, maximum-by}
-use Rattle.float.proofs.NotNegative.{upward, NotNegative, add-not-negative, mul-not-negative, maximum-not-negative}
+use Rattle.float.proofs.NotNegative.{upward, NotNegative, upward-not-nan, add-not-negative, mul-not-negative, maximum-not-negative}
 use Rattle.float.proofs.Refusal.{either, tested}
 use Rattle.bandwidth.specs.Rate.{mostRate, limited, times, plus, smaller, larger}
 use Rattle.bandwidth.specs.declared.Bitrate.{Bitrate}
@@ -69,10 +69,6 @@ plus-holds a b = limited-by HoldsRate _ _ (most-limited .forward .holds) (add-fi
 
 -- ---- the smaller and the larger
 
-not-nan : (x : Float) → T (upward x) → isNan x ≡ false
-not-nan (inf s) u = unfold isNan in refl
-not-nan (fin s m e) u = unfold isNan in refl
-
 -- what is below a limited rate
 pub below-limited : (r s : Bitrate) → LimitedRate r → NotNegativeRate s → lt (s .bps) (r .bps) ≡ true → LimitedRate s
 below-limited r s l n h = record { forward = n; within = below-at-most (mostRate .bps) (r .bps) (s .bps) most-finite most-upward h (l .within) }
@@ -80,7 +76,7 @@ below-limited r s l n h = record { forward = n; within = below-at-most (mostRate
 -- the smaller of a limited rate and any other is not above the limit, and is limited where the other is not negative
 pub smaller-within : (r s : Bitrate) → LimitedRate r → lt (mostRate .bps) (smaller r s .bps) ≡ false
 unfolding smaller
-smaller-within r s l = minimum-at-most (mostRate .bps) (r .bps) (s .bps) most-finite most-upward (not-nan (r .bps) (l .forward .above)) (l .within)
+smaller-within r s l = minimum-at-most (mostRate .bps) (r .bps) (s .bps) most-finite most-upward (upward-not-nan (r .bps) (l .forward .above)) (l .within)
 
 pub smaller-limited : (r s : Bitrate) → LimitedRate r → NotNegativeRate s → LimitedRate (smaller r s)
 unfolding smaller

@@ -1,6 +1,6 @@
 -- Floats of binary64 that are not negative: finite with the sign clear, or plus infinity. Assumes nothing.
 use Prim.Native.Nat.{ℕ, _+_, _*_}
-use mathlib.Core.Path.{_≡_}
+use mathlib.Core.Path.{_≡_, refl}
 use mathlib.Core.Bool.{Bool, true, false, not, false≢true}
 use lib.Dec.{T}
 use lib.Ieee.{Float, nan, inf, fin, binary64, up, down, round, sum, add, mul, fits, isNan, lt}
@@ -29,6 +29,12 @@ pub record NotNegative (x : Float) : Type 0 where
 pub inf-not-negative : NotNegative (inf false)
 inf-not-negative = record { holds = inf-fits binary64 false; above = tt }
 
+-- a float with the sign clear is no NaN
+pub upward-not-nan : (x : Float) → T (upward x) → isNan x ≡ false
+unfolding isNan
+upward-not-nan (inf s) u = refl
+upward-not-nan (fin s m e) u = refl
+
 -- ---- the larger
 
 -- what is above a float with the sign clear has it clear
@@ -47,12 +53,7 @@ above-upward (fin false m e) (fin false n d) u h = tt
 pub maximum-not-negative : {x : Float} (y : Float) → NotNegative x → Holds y → NotNegative (maximum x y)
 unfolding maximum
 maximum-not-negative {x} y n f =
-    tested NotNegative (isNan x) (λ h. absurd (no-nan x (n .above) h))
-    (λ h. tested NotNegative (lt x y) (λ l. record { holds = f; above = above-upward x y (n .above) l }) (λ l. n))
-  where
-    no-nan : (x : Float) → T (upward x) → isNan x ≡ true → ⊥
-    no-nan (inf s) u h = false≢true (unfold isNan in h)
-    no-nan (fin s m e) u h = false≢true (unfold isNan in h)
+    rw (upward-not-nan x (n .above)) (tested NotNegative (lt x y) (λ l. record { holds = f; above = above-upward x y (n .above) l }) (λ l. n))
 
 -- ---- what is rounded
 
