@@ -1,7 +1,7 @@
 -- Demand 3: after every list of calls. Assumes nothing.
 use Prim.Native.Nat.{ℕ}
 use mathlib.Core.Path.{_≡_, subst}
-use mathlib.Core.Bool.{cond}
+use mathlib.Core.Bool.{true, cond}
 use native.Mathlib.Omega.{arith}
 use borrow.Author.Tests.{ne-eqb}
 use lib.Dec.{T, eqb}
@@ -19,7 +19,7 @@ use Rattle.observation.specs.Ratio.{cached}
 use Rattle.loss_controller.specs.Result.{published, lossBasedResult, averageReportedLossRatio}
 use Rattle.loss_controller.specs.declared.LossController.{LossController}
 use Rattle.history.specs.History.{History, after}
-use Rattle.history.specs.WeighedPairs.{weighedLost, weighedBytes}
+use Rattle.history.specs.WeighedPairs.{weighedLost, weighedTotal}
 use Rattle.history.specs.Run.{left, told}
 use Rattle.history.specs.Demand.{UnderLossCeiling, Demand, Demand3}
 use Rattle.history.proofs.Weighed.{tied-counted, tied-ratio, tied-ceiling}
@@ -79,7 +79,7 @@ module _ (c : LossController) (h : History) (r : Reached c h) where
         near = λ some. let ratio = tied-ratio o h t some in record { taken = ratio .0; close = ratio .1 };
         clear = λ published e. limited-plain published (published-limited published e);
         capped = λ some six. let set = tied-ceiling o h t some six in
-            published-by (λ (r : Bitrate). UnderLossCeiling (r .bps) (weighedLost h) (weighedBytes h))
+            published-by (λ (r : Bitrate). UnderLossCeiling (r .bps) (weighedLost true h) (weighedTotal true h))
             (λ f. rw (ne-eqb (o .«num_observations») 0 (λ z. omega (arith, tied-counted o h t some)), set .0)
             (minimum-under (set .1) (omega (arith, six)) (delayed .bps) (limited-plain delayed (delayed-limited f))));
       }

@@ -47,7 +47,6 @@ use Rattle.history.specs.History.{History, fresh}
 use Rattle.history.specs.Run.{capacityOf}
 use Rattle.history.proofs.Tied.{Tied, fresh-tied}
 use Rattle.history.proofs.Weighed.{tied-reported, tied-readable}
-use Rattle.history.proofs.Observed.{Counted, Parted, cleared-counted, added-counted}
 
 -- ---- the rates that calls hand over
 
@@ -86,8 +85,6 @@ capacity-taken (some n) e = rate-taken n e
 -- ---- what is kept
 
 pub record SoundObservations (o : Observations) : Type 0 where
-  -- running packets lost are running packets
-  pub counted : Counted o
   -- the observations' rates are floats of binary64
   pub sent : AllSent o
   -- times are at most 4×10^18 ns
@@ -115,17 +112,16 @@ pub record Reached (c : LossController) (h : History) : Type 0 where
 -- cleared observations are sound
 pub cleared-sound : (count : ℕ) → SoundObservations (Window.cleared count)
 unfolding Window.cleared
-cleared-sound count = record { counted = cleared-counted count; sent = cleared-sent count; timely = tt }
+cleared-sound count = record { sent = cleared-sent count; timely = tt }
 
 abbrev TimelyAnswer : AddedAnswer → Type 0
 TimelyAnswer a = Timely (a .observations .«last_send_time_most_recent_observation»)
 
 -- and what a report leaves is
-pub added-sound : (o : Observations) (s : PacketResultsSummary) → SoundObservations o → Parted s → s .«last_send_time» ≤ 4 * 10 ^ 18
+pub added-sound : (o : Observations) (s : PacketResultsSummary) → SoundObservations o → s .«last_send_time» ≤ 4 * 10 ^ 18
     → SoundObservations (Window.added o s .observations)
 unfolding Window.withCeiling Window.stored Window.withPartial Window.reference
-added-sound o s k parted early = record {
-  counted = added-counted o s (k .counted) (parted .packets);
+added-sound o s k early = record {
   sent = added-sent o s (k .sent);
   timely = added-by o s TimelyAnswer (λ n. k .timely) (λ r n. k .timely) (λ u c n. early)
       (λ u c. either Timely (Time.isExact (o .«last_send_time_most_recent_observation»)) _ _ (k .timely) early);

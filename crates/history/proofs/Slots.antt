@@ -1,5 +1,5 @@
--- The fifteen slots that a history's pairs make: how a new observation turns them, and that what the loss ratio reads of them is the history's window
--- in another order. Assumes nothing.
+-- The fifteen slots that a history's observations make: how a new one turns them, and that what the loss ratio reads of them is the history's window in
+-- another order. Assumes nothing.
 use Prim.Native.Nat.{ℕ, zero, suc, _+_, _-_, _%_, _^_, _≤_, _<_}
 use mathlib.Core.Path.{_≡_, refl, sym, ap, _∙_}
 use mathlib.Core.Logic.{inl, inr}
@@ -14,14 +14,12 @@ use lib.IntN.{pos}
 use lib.Ieee.{binary64, inFloat}
 use lib.ListN.{length, take, drop, set, replicate, length-reverse, length-replicate, take-append-drop, replicate-append-replicate}
 use lib.Seq.{take-length, drop-length, take-append-le, drop-append-le, length-take-le, take-at, drop-at, set-at, append-snoc}
-use Rattle.float.proofs.Each.{Each, more, each-perm}
+use Rattle.float.proofs.Each.{Each, more}
 use Rattle.rounding.specs.Exact.{Measured, Sound}
 use Rattle.observation.specs.Ratio as Ratio
-use Rattle.observation.specs.Window.{dummy}
 use Rattle.observation.specs.declared.Observation.{Observation}
-use Rattle.history.specs.History.{Pair}
-use Rattle.history.specs.WeighedPairs.{aged}
-use Rattle.history.proofs.Kept.{SoundPair, aged-sound}
+use Rattle.history.specs.History.{Sums}
+use Rattle.history.specs.WeighedPairs.{pairOf, aged}
 
 -- ---- a list turned at r: the first r backwards, then the others backwards
 module _ {A : Type 0} where
@@ -68,57 +66,51 @@ module _ {A : Type 0} where
       )
       (rw (backwards-same a r 0, backwards-same a k 0, add-zero r, add-zero k))
 
--- ---- the slots
+-- ---- the slots, of elements newest first
+module _ {A : Type 0} where
+  -- m places by age, the newest element being the n-th observation: each beside its id, and none past the last
+  unfoldable pub byAge : ℕ → ℕ → List A → List (Option (ℕ × A))
+  byAge zero n l = []
+  byAge (suc m) n [] = none ∷ byAge m n []
+  byAge (suc m) n (a ∷ l) = some (n - 1, a) ∷ byAge m (n - 1) l
 
--- what the loss ratio reads of a slot: the id and the pair, where it is initialised
-unfoldable pub held : Observation → Option (ℕ × Pair)
-held o = cond (o .«is_initialized») (some (o .id, record { bytes = o .size; lost = o .«lost_size» })) none
+  -- the slots in order: with r = n % 15, the ages from r - 1 down to 0, then those from 14 down to r
+  unfoldable pub slots : ℕ → List A → List (Option (ℕ × A))
+  slots n l = turned (n % 15) (byAge 15 n l)
 
--- m places by age, for pairs newest first of which the newest is the n-th observation: each pair beside its id, and none past the last
-unfoldable pub byAge : ℕ → ℕ → List Pair → List (Option (ℕ × Pair))
-byAge zero n ps = []
-byAge (suc m) n [] = none ∷ byAge m n []
-byAge (suc m) n (p ∷ ps) = some (n - 1, p) ∷ byAge m (n - 1) ps
+  -- without elements they are empty, at any count
+  pub slots-empty : (n : ℕ) → slots n [] ≡ replicate 15 none
+  unfolding slots byAge
+  slots-empty n = let e : n % 15 + (15 - n % 15) ≡ 15 = omega arith in rw e at (turned-same {A = Option (ℕ × A)} none (n % 15) (15 - n % 15))
 
--- the slots in order: with r = n % 15, the ages from r - 1 down to 0, then those from 14 down to r
-unfoldable pub slots : ℕ → List Pair → List (Option (ℕ × Pair))
-slots n ps = turned (n % 15) (byAge 15 n ps)
+  by-age-length : (m n : ℕ) (l : List A) → length (byAge m n l) ≡ m
+  unfolding byAge
+  by-age-length zero n l = refl
+  by-age-length (suc m) n [] = ap suc (by-age-length m n [])
+  by-age-length (suc m) n (a ∷ l) = ap suc (by-age-length m (n - 1) l)
 
--- without pairs they are those of no observation, at any count
-pub slots-empty : (n : ℕ) → slots n [] ≡ map held (replicate 15 dummy)
-unfolding slots byAge held
-slots-empty n = let e : n % 15 + (15 - n % 15) ≡ 15 = omega arith in rw e at (turned-same {A = Option (ℕ × Pair)} none (n % 15) (15 - n % 15))
+  by-age-take : (m n : ℕ) (l : List A) → byAge m n (take m l) ≡ byAge m n l
+  unfolding byAge
+  by-age-take zero n l = refl
+  by-age-take (suc m) n [] = refl
+  by-age-take (suc m) n (a ∷ l) = rw (by-age-take m (n - 1) l)
 
--- ---- a new observation
+  by-age-last : (m n : ℕ) (l : List A) → (x : Option (ℕ × A)) × (byAge (suc m) n l ≡ byAge m n l ++ (x ∷ []))
+  unfolding byAge
+  by-age-last zero n [] = (_, refl)
+  by-age-last zero n (a ∷ l) = (_, refl)
+  by-age-last (suc m) n [] = let last = by-age-last m n [] in (last .0, rw (last .1))
+  by-age-last (suc m) n (a ∷ l) = let last = by-age-last m (n - 1) l in (last .0, rw (last .1))
 
-by-age-length : (m n : ℕ) (ps : List Pair) → length (byAge m n ps) ≡ m
-unfolding byAge
-by-age-length zero n ps = refl
-by-age-length (suc m) n [] = ap suc (by-age-length m n [])
-by-age-length (suc m) n (p ∷ ps) = ap suc (by-age-length m (n - 1) ps)
-
-by-age-take : (m n : ℕ) (ps : List Pair) → byAge m n (take m ps) ≡ byAge m n ps
-unfolding byAge
-by-age-take zero n ps = refl
-by-age-take (suc m) n [] = refl
-by-age-take (suc m) n (p ∷ ps) = rw (by-age-take m (n - 1) ps)
-
-by-age-last : (m n : ℕ) (ps : List Pair) → (x : Option (ℕ × Pair)) × (byAge (suc m) n ps ≡ byAge m n ps ++ (x ∷ []))
-unfolding byAge
-by-age-last zero n [] = (_, refl)
-by-age-last zero n (p ∷ ps) = (_, refl)
-by-age-last (suc m) n [] = let l = by-age-last m n [] in (l .0, rw (l .1))
-by-age-last (suc m) n (p ∷ ps) = let l = by-age-last m (n - 1) ps in (l .0, rw (l .1))
-
--- a new pair is set at n % 15, and a sixteenth is gone
-pub slots-turn : (n : ℕ) (p : Pair) (ps : List Pair) → set (slots n ps) (n % 15) (some (n, p)) ≡ slots (n + 1) (take 15 (p ∷ ps))
-unfolding slots byAge
-slots-turn n p ps =
-    let l = by-age-last 14 n ps in
-    let e : n + 1 - 1 ≡ n = omega arith in
-    let r : n % 15 ≤ length (byAge 14 n ps) = rw (by-age-length 14 n ps) (omega arith) in
-    rw (l .1, e, by-age-take 14 n ps)
-    (turned-set (byAge 14 n ps) (l .0) (some (n, p)) (n % 15) r ∙ turned-next n (some (n, p) ∷ byAge 14 n ps) (ap suc (by-age-length 14 n ps)))
+  -- a new element is set at n % 15, and a sixteenth is gone
+  pub slots-turn : (n : ℕ) (a : A) (l : List A) → set (slots n l) (n % 15) (some (n, a)) ≡ slots (n + 1) (take 15 (a ∷ l))
+  unfolding slots byAge
+  slots-turn n a l =
+      let last = by-age-last 14 n l in
+      let e : n + 1 - 1 ≡ n = omega arith in
+      let r : n % 15 ≤ length (byAge 14 n l) = rw (by-age-length 14 n l) (omega arith) in
+      rw (last .1, e, by-age-take 14 n l)
+      (turned-set (byAge 14 n l) (last .0) (some (n, a)) (n % 15) r ∙ turned-next n (some (n, a) ∷ byAge 14 n l) (ap suc (by-age-length 14 n l)))
 
 -- to set an element and then map is to map and then set
 pub map-set : {A B : Type 0} (f : A → B) (l : List A) (i : ℕ) (a : A) → map f (set l i a) ≡ set (map f l) i (f a)
@@ -128,40 +120,48 @@ map-set f (x ∷ l) (suc i) a = rw (map-set f l i a)
 
 -- ---- what the loss ratio reads
 
-abbrev seen : ℕ → Option (ℕ × Pair) → Option Measured
-seen n none = none
-seen n (some (id, p)) = some (record { age = Ratio.age n id; total = p .bytes; lost = p .lost })
+abbrev pub sumsOf : Observation → Sums
+sumsOf o = record { bytes = o .size; lostBytes = o .«lost_size»; packets = o .«num_packets»; lostPackets = o .«num_lost_packets» }
 
-window-is : (n : ℕ) (os : List Observation) → Ratio.window n os ≡ filterMap (seen n) (map held os)
+-- of a slot: the id and the sums, where it is initialised
+unfoldable pub held : Observation → Option (ℕ × Sums)
+held o = cond (o .«is_initialized») (some (o .id, sumsOf o)) none
+
+module _ (useBytes : Bool) where
+  abbrev seen : ℕ → Option (ℕ × Sums) → Option Measured
+  seen n none = none
+  seen n (some (id, s)) = some (record { age = Ratio.age n id; total = pairOf useBytes s .total; lost = pairOf useBytes s .lost })
+
+  age-is : (n k : ℕ) → 0 < k → Ratio.age (n + k) (k - 1) ≡ n
+  unfolding Ratio.age
+  age-is n k h = rw (lt-ltb (k - 1) (n + k) (omega arith)) (omega arith)
+
+  by-age-seen : (n m k : ℕ) (l : List Sums) → length l ≤ m → length l ≤ k → filterMap (seen (n + k)) (byAge m k l) ≡ aged n (map (pairOf useBytes) l)
+  unfolding filterMap Option·elim byAge aged
+  by-age-seen n zero k [] h l = refl
+  by-age-seen n zero k (s ∷ ss) h l = absurd (omega arith)
+  by-age-seen n (suc m) k [] h l = by-age-seen n m k [] (omega arith) l
+  by-age-seen n (suc m) k (s ∷ ss) h l =
+      let e : n + 1 + (k - 1) ≡ n + k = omega arith in
+      cc (age-is n k (omega arith), rw e at (by-age-seen (n + 1) m (k - 1) ss (omega arith) (omega arith)))
+
+window-is : (n : ℕ) (os : List Observation) → Ratio.window n os ≡ filterMap (seen true n) (map held os)
 unfolding Ratio.window held filterMap Option·elim
 window-is n [] = refl
 window-is n (o ∷ os) = go (o .«is_initialized») (window-is n os)
   where
-    go : (b : Bool) → Ratio.window n os ≡ filterMap (seen n) (map held os)
+    go : (b : Bool) → Ratio.window n os ≡ filterMap (seen true n) (map held os)
         → cond b (Ratio.measured n o ∷ Ratio.window n os) (Ratio.window n os)
-        ≡ filterMap (seen n) (cond b (some (o .id, record { bytes = o .size; lost = o .«lost_size» })) none ∷ map held os)
+        ≡ filterMap (seen true n) (cond b (some (o .id, sumsOf o)) none ∷ map held os)
     go true e = rw e
     go false e = e
-
-age-is : (n k : ℕ) → 0 < k → Ratio.age (n + k) (k - 1) ≡ n
-unfolding Ratio.age
-age-is n k h = rw (lt-ltb (k - 1) (n + k) (omega arith)) (omega arith)
-
-by-age-seen : (n m k : ℕ) (ps : List Pair) → length ps ≤ m → length ps ≤ k → filterMap (seen (n + k)) (byAge m k ps) ≡ aged n ps
-unfolding filterMap Option·elim byAge aged
-by-age-seen n zero k [] h l = refl
-by-age-seen n zero k (p ∷ ps) h l = absurd (omega arith)
-by-age-seen n (suc m) k [] h l = by-age-seen n m k [] (omega arith) l
-by-age-seen n (suc m) k (p ∷ ps) h l =
-    let e : n + 1 + (k - 1) ≡ n + k = omega arith in
-    cc (age-is n k (omega arith), rw e at (by-age-seen (n + 1) m (k - 1) ps (omega arith) (omega arith)))
 
 fits : (bytes : ℕ) → bytes ≤ 10 ^ 12 → inFloat binary64 (pos bytes) ≡ true
 unfolding inFloat
 fits bytes h = le-leb bytes (2 ^ 53) (omega arith)
 
 -- every size of a sound window goes to a float
-sound-readable : (n : ℕ) (os : List Observation) → Each Sound (Ratio.window n os) → Ratio.readable os ≡ true
+pub sound-readable : (n : ℕ) (os : List Observation) → Each Sound (Ratio.window n os) → Ratio.readable os ≡ true
 unfolding Ratio.window Ratio.readable
 sound-readable n [] s = refl
 sound-readable n (o ∷ os) s = go (o .«is_initialized») refl s (sound-readable n os)
@@ -171,15 +171,10 @@ sound-readable n (o ∷ os) s = go (o .«is_initialized») refl s (sound-readabl
     go true e (more s ss) rest = rw (e, fits (o .size) (s .bounded), fits (o .«lost_size») (omega arith)) (rest ss)
     go false e ss rest = rw e (rest ss)
 
--- ---- slots that hold a history's pairs
-module _ (n : ℕ) (ps : List Pair) (os : List Observation) (same : map held os ≡ slots n ps) (counted : length ps ≤ n) (few : length ps ≤ 15) where
-  -- the window that the ratio reads of them is the history's, in another order
-  pub slots-window : List·Permᴰ (Ratio.window n os) (aged 0 ps)
-  unfolding slots
-  slots-window =
-      let read : filterMap (seen n) (byAge 15 n ps) ≡ aged 0 ps = rw (zero-add n) at (by-age-seen 0 15 n ps few counted) in
-      rw (window-is n os, same) (rw read at (Permᴰ·filterMap (seen n) (turned-perm (n % 15) (byAge 15 n ps))))
-
-  -- and every size of them goes to a float
-  pub slots-readable : Each SoundPair ps → Ratio.readable os ≡ true
-  slots-readable sound = sound-readable n os (each-perm slots-window (aged-sound 0 ps (omega arith) sound))
+-- the window that the ratio reads of slots that hold a history's observations is the history's, in another order
+pub slots-window : (n : ℕ) (ss : List Sums) (os : List Observation) → map held os ≡ slots n ss → length ss ≤ n → length ss ≤ 15
+    → List·Permᴰ (Ratio.window n os) (aged 0 (map (pairOf true) ss))
+unfolding slots
+slots-window n ss os same counted few =
+    let read : filterMap (seen true n) (byAge 15 n ss) ≡ aged 0 (map (pairOf true) ss) = rw (zero-add n) at (by-age-seen true 0 15 n ss few counted) in
+    rw (window-is n os, same) (rw read at (Permᴰ·filterMap (seen true n) (turned-perm (n % 15) (byAge 15 n ss))))

@@ -26,13 +26,13 @@ use Rattle.loss_controller.specs.declared.Inputs.{Inputs}
 use Rattle.loss_controller.specs.declared.LossController.{LossController}
 use Rattle.loss_controller.specs.declared.ControllerAnswer.{ControllerAnswer}
 use Rattle.history.specs.Calls.{Call, estimate, acknowledged, alr, capacity, report, read}
-use Rattle.history.specs.History.{Pair, History, isOn, switched, completed, withRunning, withReport, heard, fed, after}
+use Rattle.history.specs.History.{Sums, History, isOn, switched, completed, withRunning, withReport, heard, fed, after}
 use Rattle.history.specs.Refusals.{stateRefusal, reportRefusal, refusalOf}
 use Rattle.history.specs.Finite.{estimateOf, handsFinite}
 use Rattle.history.specs.Run.{capacityOf, startOf, step, next, toldOf, left, told}
 use Rattle.history.proofs.Sums.{summed, refusal-of-packets}
-use Rattle.history.proofs.Tied.{reset-tied, heardTotals, added-tied}
-use Rattle.history.proofs.Observed.{Parted, added-refusal, summary-parted}
+use Rattle.history.proofs.Tied.{reset-tied, Parted, heardTotals, added-tied}
+use Rattle.history.proofs.Observed.{added-refusal, summary-parted}
 use Rattle.history.proofs.Reached.{TakenRate, SoundInputs, Reached, rate-taken, capacity-taken, cleared-sound, added-sound, initial-reached}
 use Rattle.history.proofs.Reached.{updated-taken}
 use Rattle.history.proofs.Run.{always}
@@ -126,9 +126,9 @@ module _ (c : LossController) (h : History) (r : Reached c h) (E : Type 0) (k : 
   abbrev totalsRefusal : PacketResultsSummary → ℕ
   totalsRefusal s = stateRefusal h (s .«num_packets») (s .«total_size») (s .«last_send_time»)
 
-  reported-on : (p : Pair) (packets time sent : ℕ) → withReport h p packets time sent .on ≡ h .on
+  reported-on : (s : Sums) (time sent : ℕ) → withReport h s time sent .on ≡ h .on
   unfolding withReport completed withRunning
-  reported-on p packets time sent = either (λ (after : History). after .on ≡ h .on) (ltb (time + 250000000) sent) _ _ refl refl
+  reported-on s time sent = either (λ (after : History). after .on ≡ h .on) (ltb (time + 250000000) sent) _ _ refl refl
 
   -- the steps after a complete observation are not refused
   observed-answered : (new : LossController) (after : History) (completed : Bool) → Reached new after → new .estimator ≡ c .estimator
@@ -170,12 +170,12 @@ module _ (c : LossController) (h : History) (r : Reached c h) (E : Type 0) (k : 
         estimate = k;
       })
       (λ e. let there = eqb-false (s .«num_packets») 0 e in
-      let refusal = added-refusal o h (r .tied) s (r .observations .counted) there (parted .packets) (parted .bytes) in
+      let refusal = added-refusal o h (r .tied) s there parted in
       checked-by (λ (b : ControllerAnswer). Answered E b (totalsRefusal s) h (heardTotals h s)) (a .refusal)
       (λ z. let b = observed-answered _ (heardTotals h s) (a .completed) (record {
-        tied = added-tied o h (r .tied) s (parted .bytes) there z;
-        on = r .on ∙ sym (reported-on _ _ _ _);
-        observations = added-sound o s (r .observations) parted early;
+        tied = added-tied o h (r .tied) s parted there z;
+        on = r .on ∙ sym (reported-on _ _ _);
+        observations = added-sound o s (r .observations) early;
         estimator = r .estimator;
         inputs = inputs;
       }) refl in
@@ -193,7 +193,7 @@ module _ (c : LossController) (h : History) (r : Reached c h) (E : Type 0) (k : 
       (λ rate. rw (← (refusal-of-packets times sizes flags columns))
       (checked-answered (s .refusal) _ _ _
       (λ z. let m = summed times sizes flags z in
-      rw (← (m .packets), ← (m .bytes), ← (m .lost), ← (m .last))
+      rw (← (m .packets), ← (m .bytes), ← (m .lostBytes), ← (m .lostPackets), ← (m .last))
       (reported-answered (s .summary) (rateOf delay) (rate-taken delay rate) (summary-parted times sizes flags) (summary-early times sizes flags))))))
 
   -- ---- any call

@@ -12,7 +12,7 @@ use Rattle.packets.specs.declared.PacketResult.{PacketResult}
 use Rattle.packets.specs.declared.PacketResultsSummary.{PacketResultsSummary}
 use Rattle.packets.specs.declared.SummaryAnswer.{SummaryAnswer}
 use Rattle.packets.proofs.Totals.{not-refused, packet-taken}
-use Rattle.history.specs.History.{bytesOf, lostOf, latest}
+use Rattle.history.specs.History.{bytesOf, lostBytesOf, lostPacketsOf, latest}
 use Rattle.history.specs.Refusals.{packetsRefusal}
 
 -- ---- refusals
@@ -62,7 +62,8 @@ module _ (times sizes flags : List ℕ) where
 record Beyond (z s : PacketResultsSummary) (times sizes flags : List ℕ) : Type 0 where
   packets : s .«num_packets» ≡ z .«num_packets» + length times
   bytes : s .«total_size» ≡ z .«total_size» + bytesOf sizes
-  lost : s .«lost_size» ≡ z .«lost_size» + lostOf sizes flags
+  lostBytes : s .«lost_size» ≡ z .«lost_size» + lostBytesOf sizes flags
+  lostPackets : s .«num_lost_packets» ≡ z .«num_lost_packets» + lostPacketsOf flags
   last : s .«last_send_time» ≡ max (z .«last_send_time») (latest times)
 
 later-is : (a b : ℕ) → later a b ≡ max a b
@@ -94,8 +95,10 @@ add-taken z p h = rw (eq-eqb (packetRefusal p) 0 h) refl
 
 beyond : (z : PacketResultsSummary) (times sizes flags : List ℕ) → length sizes ≡ length times → length flags ≡ length times
     → packetsRefusal (packets times sizes flags) ≡ 0 → Beyond z (foldl addPacket (taken z) (packets times sizes flags) .summary) times sizes flags
-unfolding packets bytesOf lostOf latest
-beyond z [] [] flags e f h = record { packets = omega arith; bytes = omega arith; lost = omega arith; last = omega arith }
+unfolding packets bytesOf lostBytesOf lostPacketsOf latest
+beyond z [] [] [] e f h =
+    record { packets = omega arith; bytes = omega arith; lostBytes = omega arith; lostPackets = omega arith; last = omega arith }
+beyond z [] [] (flag ∷ fs) e f h = absurd (omega arith)
 beyond z [] (b ∷ bs) flags e f h = absurd (omega arith)
 beyond z (t ∷ ts) [] flags e f h = absurd (omega arith)
 beyond z (t ∷ ts) (b ∷ bs) [] e f h = absurd (omega arith)
@@ -103,11 +106,13 @@ beyond z (t ∷ ts) (b ∷ bs) (flag ∷ fs) e f h =
     let p : PacketResult = record { «local_send_time» = t; size = b; lost = flag } in
     let n = none-refused p (packets ts bs fs) h in
     let r = beyond (plus z p) ts bs fs (omega arith) (omega arith) (n .1) in
+    let small = packet-taken p (n .0) .flag-small in
     rw (add-taken z p (n .0), foldl)
     (record {
       packets = omega (arith, r .packets);
       bytes = omega (arith, r .bytes);
-      lost = omega (arith, r .lost, lost-is b flag (packet-taken p (n .0) .flag-small));
+      lostBytes = omega (arith, r .lostBytes, lost-is b flag small);
+      lostPackets = omega (arith, r .lostPackets, lost-is 1 flag small);
       last = omega (arith, r .last, later-is (z .«last_send_time») t);
     })
 
@@ -115,7 +120,8 @@ beyond z (t ∷ ts) (b ∷ bs) (flag ∷ fs) e f h =
 pub record Summed (s : PacketResultsSummary) (times sizes flags : List ℕ) : Type 0 where
   pub packets : s .«num_packets» ≡ length times
   pub bytes : s .«total_size» ≡ bytesOf sizes
-  pub lost : s .«lost_size» ≡ lostOf sizes flags
+  pub lostBytes : s .«lost_size» ≡ lostBytesOf sizes flags
+  pub lostPackets : s .«num_lost_packets» ≡ lostPacketsOf flags
   pub last : s .«last_send_time» ≡ latest times
 
 -- a report that is not refused has them
@@ -126,4 +132,10 @@ summed times sizes flags h =
     let even = not-refused times sizes flags c in
     let b = beyond empty times sizes flags (even .sizes-even) (even .flags-even) (sym (refusal-of-packets times sizes flags c) ∙ h) in
     rw (eq-eqb (columnsRefusal times sizes flags) 0 c)
-    (record { packets = omega (arith, b .packets); bytes = omega (arith, b .bytes); lost = omega (arith, b .lost); last = omega (arith, b .last) })
+    (record {
+      packets = omega (arith, b .packets);
+      bytes = omega (arith, b .bytes);
+      lostBytes = omega (arith, b .lostBytes);
+      lostPackets = omega (arith, b .lostPackets);
+      last = omega (arith, b .last);
+    })

@@ -37,8 +37,9 @@ use Rattle.loss_controller.specs.Result.{published, lossBasedResult, averageRep
 use Rattle.loss_controller.specs.declared.LossController.{LossController}
 use Rattle.loss_controller.specs.declared.ControllerAnswer.{ControllerAnswer}
 use Rattle.history.specs.Calls.{Call, Told}
-use Rattle.history.specs.History.{History, fresh, switched, bytesOf, lostOf, latest, completed, withRunning, withReport, heard, fed, after}
-use Rattle.history.specs.WeighedPairs.{aged, weighedLost, weighedBytes, allBytes}
+use Rattle.history.specs.History.{History, fresh, switched, bytesOf, lostBytesOf, lostPacketsOf, latest, completed, withRunning, withReport}
+use Rattle.history.specs.History.{heard, fed, after}
+use Rattle.history.specs.WeighedPairs.{pairs, aged, weighedLost, weighedTotal, allTotals}
 use Rattle.history.specs.Run.{step, next, toldOf, leftOf, allTold, left, told}
 use Rattle.history.specs.Demand.{NearRatio, UnderLossCeiling, Demand, Demand3}
 use Rattle.history.specs.Refusals.{packetsRefusal, reportRefusal, refusalOf, Refusals2}
@@ -89,18 +90,18 @@ each-true test None f = refl
 each-true test (Some r) f = f r refl
 
 hasBytes : History → Bool
-hasBytes h = ltb 0 (allBytes (h .pairs))
+hasBytes h = ltb 0 (allTotals (pairs true h))
 
 -- 6 in 100 of them are lost at least
 loses : History → Bool
-loses h = leb (6 * weighedBytes h) (100 * weighedLost h)
+loses h = leb (6 * weighedTotal true h) (100 * weighedLost true h)
 
 meets : LossController → History → Bool
 meets c h =
     let rate = lossBasedResult c .«bandwidth_estimate» in
     eqb (numObservations c) (h .count)
-    && ((not (hasBytes h) || near (averageReportedLossRatio c) (weighedLost h) (weighedBytes h))
-    && (each plain rate && (not (hasBytes h) || (not (loses h) || each (under (weighedLost h) (weighedBytes h)) rate))))
+    && ((not (hasBytes h) || near (averageReportedLossRatio c) (weighedLost true h) (weighedTotal true h))
+    && (each plain rate && (not (hasBytes h) || (not (loses h) || each (under (weighedLost true h) (weighedTotal true h)) rate))))
 
 meets-true : (c : LossController) (h : History) → Demand c h → meets c h ≡ true
 unfolding meets hasBytes loses
@@ -268,7 +269,7 @@ pub record Outcome : Type 0 where
 
 unfoldable pub outcome : List Call → Outcome
 unfolding meets near under each hasBytes loses judged refusalOf reportRefusal packetsRefusal step toldOf allTold
-    fed heard switched withReport completed withRunning bytesOf lostOf latest aged exactSum allBytes
+    fed heard switched withReport completed withRunning bytesOf lostBytesOf lostPacketsOf latest aged exactSum allTotals
     Setters.rateRefusal Setters.startRefusal Setters.timeRefusal Setters.setBandwidthEstimate Setters.withAlrStartTime Setters.resetObservations
     Setters.setAlrStartTime Report.hasValidEstimate Report.observed Report.withDelayBasedEstimate Report.reported Report.updateBandwidthEstimate
     withObservations withEstimator withInputs published lossBasedResult averageReportedLossRatio columnsRefusal packets packetRefusal addPacket

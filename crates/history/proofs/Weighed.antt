@@ -1,13 +1,13 @@
 -- What the loss ratio and the ceiling of observations are to the history that they are tied to. Assumes nothing.
-use Prim.Native.Nat.{ℕ, suc, _+_, _-_, _*_, _≤_, _<_}
-use mathlib.Core.Path.{_≡_, refl, ap, _∙_}
+use Prim.Native.Nat.{ℕ, _+_, _-_, _*_, _≤_, _<_}
+use mathlib.Core.Path.{_≡_, refl, _∙_}
 use mathlib.Core.Logic.{inl, inr}
 use mathlib.Core.Bool.{true}
 use mathlib.Core.List.{List, [], _∷_, List·Permᴰ}
 use native.Mathlib.Nat.{eq-zero-or-pos, mul-pos, one-le-pow}
 use native.Mathlib.Omega.{arith}
 use lib.Dec.{T, lit<}
-use lib.ListN.{length}
+use lib.ListN.{length, length-map}
 use lib.Ieee.{Float, nan, inf, fin}
 use lib.Ieee.Scale.{finite}
 use Rattle.float.specs.Answer.{answered}
@@ -21,29 +21,24 @@ use Rattle.rounding.proofs.Ceiling.{Capped}
 use Rattle.rounding.proofs.AnyOrder.{length-perm, close-any-order, ceiling-any-order}
 use Rattle.observation.specs.Ratio as Ratio
 use Rattle.observation.specs.declared.Observations.{Observations}
-use Rattle.history.specs.History.{Pair, History}
-use Rattle.history.specs.WeighedPairs.{aged, window, weighedLost, weighedBytes, allBytes}
-use Rattle.history.proofs.Kept.{aged-sound}
-use Rattle.history.proofs.Slots.{slots-window, slots-readable}
+use Rattle.history.specs.History.{History}
+use Rattle.history.specs.WeighedPairs.{Pair, pairOf, pairs, aged, window, weighedLost, weighedTotal, allTotals}
+use Rattle.history.proofs.Kept.{window-short, window-sound}
+use Rattle.history.proofs.Slots.{slots-window, sound-readable}
 use Rattle.history.proofs.Tied.{Tied}
 
-aged-length : (newer : ℕ) (ps : List Pair) → length (aged newer ps) ≡ length ps
-unfolding aged
-aged-length newer [] = refl
-aged-length newer (p ∷ ps) = ap suc (aged-length (newer + 1) ps)
-
--- bytes weigh something, whatever their age
-aged-some : (newer : ℕ) (ps : List Pair) → 0 < allBytes ps → 0 < exactTotal (aged newer ps)
-unfolding aged allBytes exactSum
+-- what is counted weighs something, whatever its age
+aged-some : (newer : ℕ) (ps : List Pair) → 0 < allTotals ps → 0 < exactTotal (aged newer ps)
+unfolding aged allTotals exactSum
 aged-some newer [] h = h
-aged-some newer (p ∷ ps) h = elim (eq-zero-or-pos (p .bytes)) [
+aged-some newer (p ∷ ps) h = elim (eq-zero-or-pos (p .total)) [
   | inl none ↦ let rest = aged-some (newer + 1) ps (omega arith) in omega arith
-  | inr some ↦ let first : 0 < exactWeight newer * p .bytes =
+  | inr some ↦ let first : 0 < exactWeight newer * p .total =
       mul-pos (mul-pos (one-le-pow newer 9 (lit< tt)) (one-le-pow (14 - newer) 10 (lit< tt))) some in omega arith
 ]
 
-some-pair : (ps : List Pair) → 0 < allBytes ps → 0 < length ps
-unfolding allBytes
+some-pair : (ps : List Pair) → 0 < allTotals ps → 0 < length ps
+unfolding allTotals
 some-pair [] h = h
 some-pair (p ∷ ps) h = omega arith
 
@@ -57,18 +52,18 @@ module _ (o : Observations) (h : History) (t : Tied o h) where
   abbrev read : List Measured
   read = Ratio.window (o .«num_observations») (o .observations)
 
-  any-order : List·Permᴰ read (window h)
-  any-order = rw (t .count) (slots-window (h .count) (h .pairs) (o .observations) (t .slots) (t .kept .counted) (t .kept .few))
+  any-order : List·Permᴰ read (window true h)
+  any-order = rw (t .count) (slots-window (h .count) (h .observations) (o .observations) (t .slots) (t .kept .counted) (t .kept .few))
 
-  sound : Each Sound (window h)
-  sound = aged-sound 0 (h .pairs) (omega (arith, t .kept .few)) (t .kept .sound)
+  sound : Each Sound (window true h)
+  sound = window-sound true h (t .kept)
 
-  short : length (window h) ≤ 15
-  short = rw (aged-length 0 (h .pairs)) (t .kept .few)
+  short : length (window true h) ≤ 15
+  short = window-short true h (t .kept)
 
   -- every size goes to a float
   pub tied-readable : Ratio.readable (o .observations) ≡ true
-  tied-readable = slots-readable (h .count) (h .pairs) (o .observations) (t .slots) (t .kept .counted) (t .kept .few) (t .kept .sound)
+  tied-readable = sound-readable (o .«num_observations») (o .observations) (each-perm any-order sound)
 
   -- so the ratio is not refused
   pub tied-reported : Ratio.averageReportedLossRatio o ≡ answered (lossRatio read)
@@ -84,21 +79,21 @@ module _ (o : Observations) (h : History) (t : Tied o h) where
   pub tied-at-most-one : AtMostOne (lossRatio read)
   tied-at-most-one = ratio-at-most-one read (each-perm any-order sound) (rw (length-perm any-order) short)
 
-  module _ (some : 0 < allBytes (h .pairs)) where
+  module _ (some : 0 < allTotals (pairs true h)) where
     -- an observation is complete
     pub tied-counted : 0 < o .«num_observations»
-    tied-counted = omega (arith, some-pair (h .pairs) some, t .count, t .kept .counted)
+    tied-counted = omega (arith, some-pair (pairs true h) some, length-map (h .observations) (pairOf true), t .count, t .kept .counted)
 
     -- the ratio is within r/2^46 of the history's r
-    pub tied-ratio : (Ratio.averageReportedLossRatio o .refusal ≡ 0) × Close (Ratio.averageReportedLossRatio o .value) (weighedLost h) (weighedBytes h)
-    tied-ratio = rw tied-reported (refl, close-any-order read (window h) any-order sound short (aged-some 0 (h .pairs) some))
+    pub tied-ratio : (Ratio.averageReportedLossRatio o .refusal ≡ 0) × Close (Ratio.averageReportedLossRatio o .value) (weighedLost true h) (weighedTotal true h)
+    tied-ratio = rw tied-reported (refl, close-any-order read (window true h) any-order sound short (aged-some 0 (pairs true h) some))
 
     -- where r is at least 0.06, the ceiling is that of the ratio, within one part in 2^40 of the history's
-    pub tied-ceiling : 6 * weighedBytes h ≤ 100 * weighedLost h
+    pub tied-ceiling : 6 * weighedTotal true h ≤ 100 * weighedLost true h
         → (Ratio.cached (o .«cached_instant_upper_bound») ≡ Rate.rate (lossCeiling (Ratio.averageReportedLossRatio o .value)))
-        × Capped (lossCeiling (Ratio.averageReportedLossRatio o .value)) (weighedLost h) (weighedBytes h)
+        × Capped (lossCeiling (Ratio.averageReportedLossRatio o .value)) (weighedLost true h) (weighedTotal true h)
     unfolding Ratio.instantUpperBound Ratio.instantLimit Ratio.validOrMax
     tied-ceiling six =
-        let sets = ceiling-any-order read (window h) any-order sound short (aged-some 0 (h .pairs) some) six in
+        let sets = ceiling-any-order read (window true h) any-order sound short (aged-some 0 (pairs true h) some) six in
         rw tied-reported
         (t .ceiling ∙ rw (tied-reported, sets .taken, plain-finite (lossCeiling (lossRatio read)) (sets .capped .plainly)), sets .capped)

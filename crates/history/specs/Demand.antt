@@ -1,6 +1,7 @@
 -- What demand 3 asks of a controller beside a history, and the claim over every list of calls. Definitions only.
 use Prim.Native.Nat.{ℕ, _*_, _≤_, _<_}
 use mathlib.Core.Path.{_≡_}
+use mathlib.Core.Bool.{true}
 use mathlib.Core.List.{List}
 use lib.Dec.{T}
 use lib.Ieee.{Float}
@@ -13,7 +14,7 @@ use Rattle.loss_controller.specs.Result.{lossBasedResult, averageReportedLossRa
 use Rattle.loss_controller.specs.declared.LossController.{LossController}
 use Rattle.history.specs.Calls.{Call}
 use Rattle.history.specs.History.{History, after}
-use Rattle.history.specs.WeighedPairs.{weighedLost, weighedBytes, allBytes}
+use Rattle.history.specs.WeighedPairs.{pairs, weighedLost, weighedTotal, allTotals}
 use Rattle.history.specs.Run.{left, told}
 
 -- "the reported loss ratio is within r/2^46 of r", for r = l / t: not refused, finite with its sign clear, and so near
@@ -32,13 +33,13 @@ pub record Demand (c : LossController) (h : History) : Type 0 where
   -- "the count equal to the history's after every list"
   pub counted : numObservations c ≡ h .count
   -- "if the window has bytes": the ratio
-  pub near : 0 < allBytes (h .pairs) → NearRatio (averageReportedLossRatio c) (weighedLost h) (weighedBytes h)
+  pub near : 0 < allTotals (pairs true h) → NearRatio (averageReportedLossRatio c) (weighedLost true h) (weighedTotal true h)
   -- "a published rate is one that `loss_based_result` gives while the controller's own estimate is finite": each is finite with its sign clear
   pub clear : (published : Bitrate) → lossBasedResult c .«bandwidth_estimate» ≡ Some published → T (plain (published .bps))
   -- "and where r is at least 0.06": each is under the ceiling
-  pub capped : 0 < allBytes (h .pairs) → 6 * weighedBytes h ≤ 100 * weighedLost h
+  pub capped : 0 < allTotals (pairs true h) → 6 * weighedTotal true h ≤ 100 * weighedLost true h
       → (published : Bitrate) → lossBasedResult c .«bandwidth_estimate» ≡ Some published
-      → UnderLossCeiling (published .bps) (weighedLost h) (weighedBytes h)
+      → UnderLossCeiling (published .bps) (weighedLost true h) (weighedTotal true h)
 
 -- demand 3: after every list of calls
 abbrev pub Demand3 : Type 0

@@ -25,7 +25,7 @@ packetsRefusal (p ∷ ps) = firstRefusal (packetRefusal p) (packetsRefusal ps)
 
 -- "10: running bytes would pass 10^12, or packets 10^9."
 abbrev pub passes : History → ℕ → ℕ → Bool
-passes h packets bytes = ltb (10 ^ 9) (h .packets + packets) || ltb (10 ^ 12) (h .running .bytes + bytes)
+passes h packets bytes = ltb (10 ^ 9) (h .running .packets + packets) || ltb (10 ^ 12) (h .running .bytes + bytes)
 
 -- "11: 10^9 observations are complete and this report would complete another."
 abbrev pub fills : History → ℕ → Bool
