@@ -1,6 +1,6 @@
 -- The choice among the candidates ("One report, in order", 4). Definitions only.
 use Prim.Native.Nat.{ℕ}
-use mathlib.Core.Bool.{cond}
+use mathlib.Core.Bool.{Bool, cond}
 use mathlib.Core.List.{List, foldl}
 use lib.Dec.{eqb, ltb}
 use lib.ListN.{take}
@@ -26,11 +26,11 @@ judged b p o =
     (cond (lt (b .«objective_max») (o .value)) (record { «objective_max» = o .value; «best_candidate» = p; refusal = 0 }) b)
     (record { «objective_max» = b .«objective_max»; «best_candidate» = b .«best_candidate»; refusal = o .refusal })
 
--- one Newton step, then the objective; nothing more once one is refused
-unfoldable pub better : List Row → Float → Best → ChannelParameters → Best
-better rows ratio b p =
+-- one Newton step, then the objective, by the profile's measure; nothing more once one is refused
+unfoldable pub better : Bool → List Row → Float → Best → ChannelParameters → Best
+better useBytes rows ratio b p =
     let stepped = newton rows p in
-    cond (eqb (b .refusal) 0) (judged b stepped (objective rows ratio stepped)) b
+    cond (eqb (b .refusal) 0) (judged b stepped (objective useBytes rows ratio stepped)) b
 
 -- the current parameters beside a refusal
 unfoldable pub answered : ChannelParameters → Best → ChoiceAnswer
@@ -42,5 +42,6 @@ unfoldable pub used : ℕ → ℕ
 used count = cond (ltb count 6) count 6
 
 -- the candidates in use, in order (update_bandwidth_estimate)
-unfoldable pub choice : ChannelParameters → Candidates → List Row → Float → ChoiceAnswer
-choice current c rows ratio = answered current (foldl (better rows ratio) (start current) (take (used (c .count)) (c .places)))
+unfoldable pub choice : Bool → ChannelParameters → Candidates → List Row → Float → ChoiceAnswer
+choice useBytes current c rows ratio =
+    answered current (foldl (better useBytes rows ratio) (start current) (take (used (c .count)) (c .places)))

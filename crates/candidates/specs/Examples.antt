@@ -174,6 +174,6 @@ unfolding answered judged lt ofBits
 refused-example = refl
 
 -- no candidate
-none-example : choice (parameters three) (placed (parameters one) []) [] (bits 0) ≡ record { best = parameters three; refusal = 0 }
+none-example : choice true (parameters three) (placed (parameters one) []) [] (bits 0) ≡ record { best = parameters three; refusal = 0 }
 unfolding answered choice placed used
 none-example = refl

@@ -206,12 +206,13 @@ impl Candidates {
 // ---- the choice
 
 pub fn choose(
+    use_byte_loss_ratio: bool,
     current: ChannelParameters,
     candidates: Candidates,
     rows: [Row; 15],
     average_reported_loss_ratio: f64,
 ) -> ChoiceAnswer
-    ensures { λ r. ⌜ r ≡ Choice.choice current candidates rows «average_reported_loss_ratio» ⌝ }
+    ensures { λ r. ⌜ r ≡ Choice.choice «use_byte_loss_ratio» current candidates rows «average_reported_loss_ratio» ⌝ }
 {
     let places = candidates.places;
     let used = used(candidates.count);
@@ -223,7 +224,13 @@ pub fn choose(
     let mut i: usize = 0;
     while i < used {
         let candidate = places[i];
-        best = better(best, candidate, rows, average_reported_loss_ratio);
+        best = better(
+            use_byte_loss_ratio,
+            best,
+            candidate,
+            rows,
+            average_reported_loss_ratio,
+        );
         i += 1;
     }
     answered(best, current)
@@ -240,14 +247,20 @@ fn used(count: u64) -> usize
 }
 
 // One more candidate, after its Newton step. A refused objective ends the choice.
-fn better(best: Best, candidate: ChannelParameters, rows: [Row; 15], ratio: f64) -> Best
-    ensures { λ r. ⌜ r ≡ Choice.better rows ratio best candidate ⌝ }
+fn better(
+    use_byte_loss_ratio: bool,
+    best: Best,
+    candidate: ChannelParameters,
+    rows: [Row; 15],
+    ratio: f64,
+) -> Best
+    ensures { λ r. ⌜ r ≡ Choice.better «use_byte_loss_ratio» rows ratio best candidate ⌝ }
 {
     if best.refusal != 0 {
         return best;
     }
     let stepped = likelihood::newtons_method_update(rows, candidate);
-    let objective = likelihood::get_objective(rows, ratio, stepped);
+    let objective = likelihood::get_objective(use_byte_loss_ratio, rows, ratio, stepped);
     judged(best, stepped, objective)
 }
 

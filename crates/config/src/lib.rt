@@ -1,8 +1,8 @@
 // The settings of the controller: the Rust's `Config::default()` and the constants beside it, by
 // their names. Fixed on in the Rust, and so not asked here:
 // `not_increase_if_inherent_loss_less_than_average_loss`, `append_acknowledged_rate_candidate`,
-// `append_delay_based_estimate_candidate`, `use_byte_loss_ratio`; fixed off:
-// `trendline_integration_enabled`. Both temporal weight factors are 0.9: crate `logarithm` has the
+// `append_delay_based_estimate_candidate`; fixed off: `trendline_integration_enabled`. A controller
+// has its own `use_byte_loss_ratio`. Both temporal weight factors are 0.9: crate `logarithm` has the
 // table of weights. `newton_iterations` is 1. The maximum rate is infinite. The Rust's branch for a
 // loss ratio above 1.0, which no list reaches, is left out with its three settings and `min_bitrate`.
 use bandwidth::Bitrate;

@@ -2,6 +2,7 @@
 -- refused, none of its logarithms was. Assumes nothing.
 use Prim.Native.Nat.{ℕ}
 use mathlib.Core.Path.{_≡_, refl}
+use mathlib.Core.Bool.{Bool}
 use mathlib.Core.List.{List}
 use lib.Dec.{T}
 use lib.Ieee.{Float, eq, isNan, ofBits}
@@ -20,7 +21,7 @@ use Rattle.logarithm.specs.Ln.{logarithm}
 use Rattle.logarithm.proofs.Logarithms.{one-more}
 use Rattle.likelihood.specs.Bias.{bias}
 use Rattle.likelihood.specs.Feasible.{upperBound, feasible}
-use Rattle.likelihood.specs.Objective.{addTerms, objective}
+use Rattle.likelihood.specs.Objective.{terms, addTerms, objective}
 use Rattle.likelihood.specs.Probability.{rowProbability}
 use Rattle.likelihood.specs.declared.ChannelParameters.{ChannelParameters}
 use Rattle.likelihood.specs.declared.Row.{Row}
@@ -45,20 +46,20 @@ bias-taken r ratio n = tested Taken (finite (r .bps)) (λ f. rw (one-more (r .bp
 abbrev pub SentRow : Row → Type 0
 SentRow row = HoldsRate (row .«sending_rate»)
 
-module _ (c : ChannelParameters) (n : NotNegativeRate (c .«loss_limited_bandwidth»)) (i : NotNan (c .«inherent_loss»)) where
-  terms-taken : (b : Float) (sum : FloatAnswer) (row : Row) → Taken sum → SentRow row → Taken (addTerms c b sum row)
-  unfolding addTerms
+module _ (useBytes : Bool) (c : ChannelParameters) (n : NotNegativeRate (c .«loss_limited_bandwidth»)) (i : NotNan (c .«inherent_loss»)) where
+  terms-taken : (b : Float) (sum : FloatAnswer) (row : Row) → Taken sum → SentRow row → Taken (addTerms useBytes c b sum row)
+  unfolding addTerms terms
   terms-taken b sum row t sent =
       let limited = c .«loss_limited_bandwidth» in
       let p : Probable (rowProbability c row) = probability-probable (c .«inherent_loss») limited (row .«sending_rate») i (n .above) sent in
       either Taken (row .«is_initialized») _ sum (rw (t, p .lost, p .received)) t
 
   -- over any rows that were sent at rates of binary64, no logarithm is refused
-  pub objective-taken : (rows : List Row) (ratio : Float) → Each SentRow rows → objective rows ratio c .refusal ≡ 0
+  pub objective-taken : (rows : List Row) (ratio : Float) → Each SentRow rows → objective useBytes rows ratio c .refusal ≡ 0
   unfolding objective
   objective-taken rows ratio sent =
       let b = bias (c .«loss_limited_bandwidth») ratio in
-      each-fold Taken (addTerms c (b .value)) (terms-taken (b .value)) _ (bias-taken (c .«loss_limited_bandwidth») ratio n) sent
+      each-fold Taken (addTerms useBytes c (b .value)) (terms-taken (b .value)) _ (bias-taken (c .«loss_limited_bandwidth») ratio n) sent
 
 -- ---- what an objective has asked
 
@@ -74,7 +75,7 @@ pub record LogarithmsTaken (rows : List Row) (c : ChannelParameters) : Type 0 wh
 abbrev code : FloatAnswer → ℕ
 code a = a .refusal
 
-module _ (c : ChannelParameters) where
+module _ (useBytes : Bool) (c : ChannelParameters) where
   bias-logarithm : (ratio : Float) → Taken (bias (c .«loss_limited_bandwidth») ratio) → T (finite (c .«loss_limited_bandwidth» .bps))
       → Taken (logarithm (one ⊕ c .«loss_limited_bandwidth» .bps))
   unfolding bias
@@ -82,8 +83,8 @@ module _ (c : ChannelParameters) where
       let x = c .«loss_limited_bandwidth» .bps in
       passed code (logarithm (one ⊕ x) .refusal) refl (rw (is-true (finite x) f) at t) .0
 
-  terms-logarithms : (b : Float) (sum : FloatAnswer) (row : Row) → Taken (addTerms c b sum row) → Taken sum × RowTaken c row
-  unfolding addTerms
+  terms-logarithms : (b : Float) (sum : FloatAnswer) (row : Row) → Taken (addTerms useBytes c b sum row) → Taken sum × RowTaken c row
+  unfolding addTerms terms
   terms-logarithms b sum row =
       let p = rowProbability c row in
       tested (λ (a : FloatAnswer). Taken a → Taken sum × RowTaken c row) (row .«is_initialized»)
@@ -93,9 +94,9 @@ module _ (c : ChannelParameters) where
       (first .0, λ there. record { lost = lost .0; received = passed code (logarithm (one ⊖ p) .refusal) refl (lost .1) .0 }))
       (λ i t. (t, λ there. absurd (rw i at there)))
 
-  pub objective-logarithms : (rows : List Row) (ratio : Float) → objective rows ratio c .refusal ≡ 0 → LogarithmsTaken rows c
+  pub objective-logarithms : (rows : List Row) (ratio : Float) → objective useBytes rows ratio c .refusal ≡ 0 → LogarithmsTaken rows c
   unfolding objective
   objective-logarithms rows ratio t =
       let b = bias (c .«loss_limited_bandwidth») ratio in
-      let told = each-of-fold (RowTaken c) Taken (addTerms c (b .value)) (terms-logarithms (b .value)) _ rows t in
+      let told = each-of-fold (RowTaken c) Taken (addTerms useBytes c (b .value)) (terms-logarithms (b .value)) _ rows t in
       record { rate = bias-logarithm ratio (told .0); each = told .1 }

@@ -16,7 +16,7 @@ use Rattle.likelihood.specs.Feasible.{upperBound, feasible}
 use Rattle.likelihood.specs.Probability.{congested, probability}
 use Rattle.likelihood.specs.Newton.{safe, addDerivatives, derivatives, newton}
 use Rattle.likelihood.specs.Bias.{adjusted, bias}
-use Rattle.likelihood.specs.Objective.{addTerms, objective}
+use Rattle.likelihood.specs.Objective.{withTerms, terms, addTerms, objective}
 use Rattle.likelihood.specs.declared.ChannelParameters.{ChannelParameters}
 use Rattle.likelihood.specs.declared.Row.{Row}
 
@@ -142,12 +142,24 @@ bias-examples = refl
 
 -- ---- objective
 
+-- by packets: 1 of 10 lost, sent at 2,000,000 bit/s; 3 of 30, one observation older, sent at 1,500,000 bit/s; an empty slot
+packet-rows : List Row
+packet-rows =
+    row true 0x3FF0000000000000 0x3FF0000000000000 0x4022000000000000 0x4024000000000000 two-million ∷
+    row true 0x3FECCCCCCCCCCCCD 0x4008000000000000 0x403B000000000000 0x403E000000000000 0x4136E36000000000 ∷
+    row false 0 0 0 0 0xFFF0000000000000 ∷
+    []
+
 -- at the ratio 0.1: two candidates, one of an infinite rate, and refused for a NaN and for a rate of -1 bit/s
 objective-examples :
-    map (objective rows (bits tenth))
+    map (objective true rows (bits tenth))
     (candidate hundredth million ∷ candidate 0x3FE0000000000000 0x41324F8000000000 ∷ candidate hundredth 0x7FF0000000000000 ∷ []) ≡
     answered (bits 0x3FE7303F4DB8C88F) ∷ answered (bits 0x3FEBC6E44BFD0D5C) ∷ answered (bits 0xBF470D34D5CD008D) ∷ []
-    × objective rows (bits tenth) (candidate 0x7FF8000000000000 million) ≡ record { value = bits 0; refusal = 6 }
-    × objective rows (bits tenth) (candidate hundredth 0xBFF0000000000000) ≡ record { value = bits 0; refusal = 6 }
-unfolding rows objective addTerms bias adjusted logarithm magnitude probability congested clamped minus add div eq le lt mul ofBits ofInt sub toBits
-objective-examples = (refl, refl, refl)
+    × map (objective false packet-rows (bits tenth))
+    (candidate hundredth million ∷ candidate 0x3FE0000000000000 0x41324F8000000000 ∷ candidate hundredth 0x7FF0000000000000 ∷ []) ≡
+    answered (bits 0x40BC4CE737A9C32A) ∷ answered (bits 0x40C0F4999D82DCC6) ∷ answered (bits 0xC0315FB1BDDBA033) ∷ []
+    × objective true rows (bits tenth) (candidate 0x7FF8000000000000 million) ≡ record { value = bits 0; refusal = 6 }
+    × objective false rows (bits tenth) (candidate hundredth 0xBFF0000000000000) ≡ record { value = bits 0; refusal = 6 }
+unfolding rows packet-rows objective addTerms terms withTerms bias adjusted logarithm magnitude probability congested clamped minus add div eq le lt mul
+    ofBits ofInt sub toBits
+objective-examples = (refl, refl, refl, refl)

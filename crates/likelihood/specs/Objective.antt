@@ -1,5 +1,5 @@
 -- A candidate's objective: get_objective. Definitions only.
-use mathlib.Core.Bool.{cond}
+use mathlib.Core.Bool.{Bool, cond}
 use mathlib.Core.List.{List, foldl}
 use lib.Ieee.{Float}
 use Rattle.float.specs.Rounded.{bits, one, thousand, _⊕_, _⊖_, _⊗_, _⊘_}
@@ -11,23 +11,28 @@ use Rattle.likelihood.specs.Bias.{onward, bias}
 use Rattle.likelihood.specs.declared.ChannelParameters.{ChannelParameters}
 use Rattle.likelihood.specs.declared.Row.{Row}
 
--- the log-likelihood of a row whose loss probability has these two logarithms, weighted
-abbrev pub logLikelihood : Row → Float → Float → Float
-logLikelihood row lnLost lnReceived = row .weight ⊗ (row .lost ⊘ thousand ⊗ lnLost ⊕ row .received ⊘ thousand ⊗ lnReceived)
+-- o with a row's two terms, one after the other: the log-likelihood where its loss probability has these two logarithms, weighted, and its part of the
+-- bias b; by bytes each count is divided by 1000.0, by packets there is none to divide (Q-7)
+unfoldable pub withTerms : Bool → Row → Float → Float → Float → Float → Float
+withTerms useBytes row b lnLost lnReceived o =
+    cond useBytes
+    (o ⊕ row .weight ⊗ (row .lost ⊘ thousand ⊗ lnLost ⊕ row .received ⊘ thousand ⊗ lnReceived) ⊕ row .weight ⊗ b ⊗ row .total ⊘ thousand)
+    (o ⊕ row .weight ⊗ (row .lost ⊗ lnLost ⊕ row .received ⊗ lnReceived) ⊕ row .weight ⊗ b ⊗ row .total)
 
--- a row's two terms, one after the other, where it is initialized; the first refused logarithm is the answer
-unfoldable pub addTerms : ChannelParameters → Float → FloatAnswer → Row → FloatAnswer
-addTerms c b sum row =
+-- the same of a row at a candidate, whose loss probability gives the logarithms; the first that is refused is the answer
+unfoldable pub terms : Bool → ChannelParameters → Float → Row → Float → FloatAnswer
+terms useBytes c b row o =
     let p = rowProbability c row in
-    cond (row .«is_initialized»)
-    (onward sum (λ o.
     onward (logarithm p) (λ lnLost.
     onward (logarithm (one ⊖ p)) (λ lnReceived.
-    answered (o ⊕ logLikelihood row lnLost lnReceived ⊕ row .weight ⊗ b ⊗ row .total ⊘ thousand)))))
-    sum
+    answered (withTerms useBytes row b lnLost lnReceived o)))
+
+-- a row's terms, where it is initialized; an objective that is refused stays so
+unfoldable pub addTerms : Bool → ChannelParameters → Float → FloatAnswer → Row → FloatAnswer
+addTerms useBytes c b sum row = cond (row .«is_initialized») (onward sum (terms useBytes c b row)) sum
 
 -- the bias first, then the rows in slot order, from 0.0
-unfoldable pub objective : List Row → Float → ChannelParameters → FloatAnswer
-objective rows ratio c =
+unfoldable pub objective : Bool → List Row → Float → ChannelParameters → FloatAnswer
+objective useBytes rows ratio c =
     let b = bias (c .«loss_limited_bandwidth») ratio in
-    foldl (addTerms c (b .value)) (record { value = bits 0; refusal = b .refusal }) rows
+    foldl (addTerms useBytes c (b .value)) (record { value = bits 0; refusal = b .refusal }) rows

@@ -1,11 +1,12 @@
 // The likelihood of loss_controller.rs: how well a candidate explains the observations, which come
 // as rows of floats in slot order.
 ghost use mathlib.Core.Path.{_≡_};
+ghost use mathlib.Core.Bool.{true, false};
 ghost use Rattle.likelihood.specs.Feasible.{upperBound, feasible};
 ghost use Rattle.likelihood.specs.Probability.{congested, probability};
 ghost use Rattle.likelihood.specs.Newton.{safe, addDerivatives, derivatives, newton};
 ghost use Rattle.likelihood.specs.Bias.{adjusted, bias as biasOf};
-ghost use Rattle.likelihood.specs.Objective.{addTerms, objective};
+ghost use Rattle.likelihood.specs.Objective.{terms, addTerms, objective};
 use bandwidth::Bitrate;
 use float::FloatAnswer;
 
@@ -15,7 +16,8 @@ pub struct ChannelParameters {
     pub loss_limited_bandwidth: Bitrate,
 }
 
-// One observation as the likelihood sees it: its weight, its sizes in kB as floats, its rate.
+// One observation as the likelihood sees it: its weight, its sizes in kB or its packets as floats,
+// its rate.
 pub struct Row {
     pub is_initialized: bool,
     pub weight: f64,
@@ -217,21 +219,17 @@ pub fn get_high_bandwidth_bias(bandwidth: Bitrate, average_reported_loss_ratio: 
 
 // ---- objective
 
-// The objective with a row's terms; it stays refused once it is.
-fn add_terms(
-    objective: FloatAnswer,
+// The objective with a row's two terms, its likelihood and its part of the bias, where loss is
+// counted in bytes. The two branches of the Rust are two functions, with the logarithms in each:
+// asked in one function for both, they are not worked out side by side, and the program is slower.
+fn add_byte_terms(
+    objective: f64,
     row: Row,
     candidate: ChannelParameters,
     high_bandwidth_bias: f64,
 ) -> FloatAnswer
-    ensures { λ r. ⌜ r ≡ addTerms candidate «high_bandwidth_bias» objective row ⌝ }
+    ensures { λ r. ⌜ r ≡ terms true candidate «high_bandwidth_bias» row objective ⌝ }
 {
-    if !row.is_initialized {
-        return objective;
-    }
-    if objective.refusal != 0 {
-        return objective;
-    }
     let loss_probability = get_loss_probability(
         candidate.inherent_loss,
         candidate.loss_limited_bandwidth,
@@ -249,17 +247,71 @@ fn add_terms(
         * ((row.lost / 1000.0) * ln_lost.value + (row.received / 1000.0) * ln_received.value);
     let bias = row.weight * high_bandwidth_bias * row.total / 1000.0;
     FloatAnswer {
-        value: objective.value + likelihood + bias,
+        value: objective + likelihood + bias,
         refusal: 0,
     }
 }
 
+// The same where it is counted in packets: nothing is divided.
+fn add_packet_terms(
+    objective: f64,
+    row: Row,
+    candidate: ChannelParameters,
+    high_bandwidth_bias: f64,
+) -> FloatAnswer
+    ensures { λ r. ⌜ r ≡ terms false candidate «high_bandwidth_bias» row objective ⌝ }
+{
+    let loss_probability = get_loss_probability(
+        candidate.inherent_loss,
+        candidate.loss_limited_bandwidth,
+        row.sending_rate,
+    );
+    let ln_lost = logarithm::ln(loss_probability);
+    if ln_lost.refusal != 0 {
+        return ln_lost;
+    }
+    let ln_received = logarithm::ln(1.0 - loss_probability);
+    if ln_received.refusal != 0 {
+        return ln_received;
+    }
+    let likelihood = row.weight * (row.lost * ln_lost.value + row.received * ln_received.value);
+    let bias = row.weight * high_bandwidth_bias * row.total;
+    FloatAnswer {
+        value: objective + likelihood + bias,
+        refusal: 0,
+    }
+}
+
+// The objective with a row's terms; it stays refused once it is.
+fn add_terms(
+    use_byte_loss_ratio: bool,
+    objective: FloatAnswer,
+    row: Row,
+    candidate: ChannelParameters,
+    high_bandwidth_bias: f64,
+) -> FloatAnswer
+    ensures { λ r. ⌜ r ≡ addTerms «use_byte_loss_ratio» candidate «high_bandwidth_bias» objective row ⌝ }
+{
+    if !row.is_initialized {
+        return objective;
+    }
+    if objective.refusal != 0 {
+        return objective;
+    }
+    if use_byte_loss_ratio {
+        return add_byte_terms(objective.value, row, candidate, high_bandwidth_bias);
+    }
+    add_packet_terms(objective.value, row, candidate, high_bandwidth_bias)
+}
+
+// Refusal 6 where a logarithm has no argument.
 pub fn get_objective(
+    use_byte_loss_ratio: bool,
     rows: [Row; 15],
     average_reported_loss_ratio: f64,
     candidate: ChannelParameters,
 ) -> FloatAnswer
-    ensures { λ r. ⌜ r ≡ objective rows «average_reported_loss_ratio» candidate ⌝ }
+    ensures { λ r. ⌜ r ≡ objective «use_byte_loss_ratio» rows «average_reported_loss_ratio» candidate ⌝ }
 {
     let bias = get_high_bandwidth_bias(
         candidate.loss_limited_bandwidth,
@@ -272,7 +324,7 @@ pub fn get_objective(
     let mut i: usize = 0;
     while i < 15 {
         let row = rows[i];
-        objective = add_terms(objective, row, candidate, bias.value);
+        objective = add_terms(use_byte_loss_ratio, objective, row, candidate, bias.value);
         i += 1;
     }
     objective

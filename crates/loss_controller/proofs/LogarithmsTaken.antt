@@ -44,8 +44,9 @@ updated-logarithms c t =
     let offered = Candidate.candidates current (Report.bounds c) in
     let code : EstimatorAnswer → ℕ = λ a. a .refusal in
     let chosen = passed code (ratio .refusal) refl (passed code (rows .refusal) refl t .1) .1 in
-    let none = choice-objectives (rows .rows) (ratio .value) current offered (passed code _ refl chosen .0) in
-    each-weaken (λ p. objective-logarithms (newton (rows .rows) p) (rows .rows) (ratio .value)) none
+    let useBytes = c .observations .«use_byte_loss_ratio» in
+    let none = choice-objectives useBytes (rows .rows) (ratio .value) current offered (passed code _ refl chosen .0) in
+    each-weaken (λ p. objective-logarithms useBytes (newton (rows .rows) p) (rows .rows) (ratio .value)) none
 
 -- ---- the report
 

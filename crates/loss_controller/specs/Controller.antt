@@ -1,6 +1,6 @@
 -- The controller, and the answers of its calls. Definitions only.
 use Prim.Native.Nat.{ℕ}
-use mathlib.Core.Bool.{false, cond}
+use mathlib.Core.Bool.{Bool, false, cond}
 use lib.Dec.{eqb}
 use lib.Ieee.{inf}
 use Rattle.bandwidth.specs.Rate as Rate
@@ -14,11 +14,12 @@ use Rattle.loss_controller.specs.declared.Inputs.{Inputs}
 use Rattle.loss_controller.specs.declared.LossController.{LossController}
 use Rattle.loss_controller.specs.declared.ControllerAnswer.{ControllerAnswer}
 
--- LossController::new: no observation, no estimate, infinite rates, not in ALR, no link capacity
-abbrev pub initial : LossController
-initial =
+-- a fresh controller: no observation, no estimate, infinite rates, not in ALR, no link capacity. Loss is by bytes, as LossController::new has it, or by
+-- packets: "the profile with `use_byte_loss_ratio` false, fixed when a controller is made" (Q-7)
+abbrev pub initial : Bool → LossController
+initial useBytes =
     record {
-      observations = cleared 0;
+      observations = cleared useBytes 0;
       estimator = Update.initial;
       inputs =
           record {

@@ -57,7 +57,8 @@ updatedEstimator c =
     let current = e .«current_estimate» in
     let rows = Rows.rows (c .observations) in
     let ratio = Ratio.averageReportedLossRatio (c .observations) in
-    let choice = Choice.choice current (Candidate.candidates current (bounds c)) (rows .rows) (ratio .value) in
+    let choice =
+    Choice.choice (c .observations .«use_byte_loss_ratio») current (Candidate.candidates current (bounds c)) (rows .rows) (ratio .value) in
     cond (eqb (rows .refusal) 0)
     (cond (eqb (ratio .refusal) 0)
     (cond (eqb (choice .refusal) 0)

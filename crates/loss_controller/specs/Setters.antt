@@ -101,7 +101,7 @@ withAlrStartTime c start =
 
 -- "An ALR change empties window, running sums, reference time and loss ceiling. It keeps the observation count, estimate, hold and state."
 unfoldable pub resetObservations : LossController → LossController
-resetObservations c = withObservations c (cleared (c .observations .«num_observations»))
+resetObservations c = withObservations c (cleared (c .observations .«use_byte_loss_ratio») (c .observations .«num_observations»))
 
 -- "Setting ALR on twice is no change", but for the start that is stored
 unfoldable pub setAlrStartTime : LossController → OptionInstant → ControllerAnswer

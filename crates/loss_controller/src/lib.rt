@@ -1,6 +1,7 @@
 // `LossController` of src/bwe/loss_controller.rs, its calls by value. A call that is refused hands
 // the controller back as it was.
 ghost use mathlib.Core.Path.{_≡_};
+ghost use mathlib.Core.Bool.{true};
 ghost use Rattle.loss_controller.specs.Controller as Controller;
 ghost use Rattle.loss_controller.specs.Setters as Setters;
 ghost use Rattle.loss_controller.specs.Report as Steps;
@@ -107,11 +108,20 @@ fn capacity_refusal(capacity: OptionBitrate) -> u8
 }
 
 impl LossController {
+    // By bytes, as the Rust's settings have it.
     pub fn new() -> LossController
-        ensures { λ r. ⌜ r ≡ Controller.initial ⌝ }
+        ensures { λ r. ⌜ r ≡ Controller.initial true ⌝ }
+    {
+        LossController::with_profile(true)
+    }
+
+    // Whether loss is counted in bytes or in packets is fixed here. The Rust has the setting, and no
+    // way to make a controller with another value of it.
+    pub fn with_profile(use_byte_loss_ratio: bool) -> LossController
+        ensures { λ r. ⌜ r ≡ Controller.initial «use_byte_loss_ratio» ⌝ }
     {
         LossController {
-            observations: Observations::new(),
+            observations: Observations::new(use_byte_loss_ratio),
             estimator: Estimator::new(),
             inputs: Inputs {
                 acknowledged_bitrate: Bitrate::infinity(),
@@ -394,7 +404,13 @@ impl LossController {
         }
         let window = rows.rows;
         let candidates = candidates::get_candidates(current_estimate, self.bounds());
-        let choice = candidates::choose(current_estimate, candidates, window, ratio.value);
+        let choice = candidates::choose(
+            observations.use_byte_loss_ratio,
+            current_estimate,
+            candidates,
+            window,
+            ratio.value,
+        );
         let refusal = choice.refusal;
         if refusal != 0 {
             return EstimatorAnswer { estimator, refusal };

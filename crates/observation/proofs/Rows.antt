@@ -15,32 +15,33 @@ use Rattle.observation.specs.declared.Observation.{Observation}
 use Rattle.observation.specs.declared.RowAnswer.{RowAnswer}
 
 -- ---- one slot
-module _ (count : ℕ) (o : Observation) {a : RowAnswer} (e : a ≡ row count o) where
-  slot-read : a .refusal ≡ 0 → legible o ≡ true
+module _ (useBytes : Bool) (count : ℕ) (o : Observation) {a : RowAnswer} (e : a ≡ row useBytes count o) where
+  slot-read : a .refusal ≡ 0 → legible useBytes o ≡ true
   unfolding row
-  slot-read h = accepted (λ (x : RowAnswer). x .refusal) _ _ (legible o) (lit< tt) (ap (λ (x : RowAnswer). x .refusal) (sym e) ∙ h)
+  slot-read h = accepted (λ (x : RowAnswer). x .refusal) _ _ (legible useBytes o) (lit< tt) (ap (λ (x : RowAnswer). x .refusal) (sym e) ∙ h)
 
-  pub slot-row : a .refusal ≡ 0 → a .row ≡ rowOf count o
+  pub slot-row : a .refusal ≡ 0 → a .row ≡ rowOf useBytes count o
   unfolding row
   slot-row h = rw (e, slot-read h)
 
-  slot-refused : (a .refusal ≡ 0 → ⊥) → legible o ≡ false
+  slot-refused : (a .refusal ≡ 0 → ⊥) → legible useBytes o ≡ false
   unfolding row
-  slot-refused h = declined (λ (x : RowAnswer). x .refusal) _ _ (legible o) refl (rw e at h)
+  slot-refused h = declined (λ (x : RowAnswer). x .refusal) _ _ (legible useBytes o) refl (rw e at h)
 
 -- ---- the slots that are left
-module _ (os : List Observation) (count i : ℕ) (d : Observation) (l : i < length os) {a : RowAnswer} (e : a ≡ row count (getD os i d)) where
-  pub read-again : {b : Bool} → a .refusal ≡ 0 → readable (drop i os) ≡ b → readable (drop (i + 1) os) ≡ b
+module _ (useBytes : Bool) (os : List Observation) (count i : ℕ) (d : Observation) (l : i < length os) {a : RowAnswer}
+    (e : a ≡ row useBytes count (getD os i d)) where
+  pub read-again : {b : Bool} → a .refusal ≡ 0 → readable useBytes (drop i os) ≡ b → readable useBytes (drop (i + 1) os) ≡ b
   unfolding readable
-  read-again h p = rw (add-one) (rw (drop-cons os i d l, slot-read count (getD os i d) e h) at p)
+  read-again h p = rw (add-one) (rw (drop-cons os i d l, slot-read useBytes count (getD os i d) e h) at p)
 
-  pub not-read : {b : Bool} → (a .refusal ≡ 0 → ⊥) → readable (drop i os) ≡ b → false ≡ b
+  pub not-read : {b : Bool} → (a .refusal ≡ 0 → ⊥) → readable useBytes (drop i os) ≡ b → false ≡ b
   unfolding readable
-  not-read h p = rw (drop-cons os i d l, slot-refused count (getD os i d) e h) at p
+  not-read h p = rw (drop-cons os i d l, slot-refused useBytes count (getD os i d) e h) at p
 
-pub all-read : {b : Bool} (os : List Observation) (i : ℕ) → length os ≤ i → readable (drop i os) ≡ b → true ≡ b
+pub all-read : (useBytes : Bool) {b : Bool} (os : List Observation) (i : ℕ) → length os ≤ i → readable useBytes (drop i os) ≡ b → true ≡ b
 unfolding readable
-all-read os i l p = rw (drop-of-length-le os l) at p
+all-read useBytes os i l p = rw (drop-of-length-le os l) at p
 
 -- ---- the rows that are there
 module _ {A B : Type 0} (f : A → B) (rows : List B) (os : List A) (i : ℕ) where

@@ -1,6 +1,6 @@
 -- The rate of each observation is a float of binary64, from the start on and after each report; so is the rate of each row. Assumes nothing.
 use Prim.Native.Nat.{ℕ}
-use mathlib.Core.Bool.{_&&_}
+use mathlib.Core.Bool.{Bool, _&&_}
 use lib.Dec.{eqb, leb}
 use lib.IntN.{pos}
 use lib.Ieee.{binary64, inFloat}
@@ -50,9 +50,9 @@ observed-sent p id span =
 -- ---- the window
 
 -- at the start and after a reset each rate is
-pub cleared-sent : (count : ℕ) → AllSent (Window.cleared count)
+pub cleared-sent : (useBytes : Bool) (count : ℕ) → AllSent (Window.cleared useBytes count)
 unfolding Window.cleared
-cleared-sent count = each-replicate SentObservation 15 Window.dummy (inf-fits binary64 _)
+cleared-sent useBytes count = each-replicate SentObservation 15 Window.dummy (inf-fits binary64 _)
 
 -- after a report each still is
 pub added-sent : (o : Observations) (s : PacketResultsSummary) → AllSent o → AllSent (Window.added o s .observations)
@@ -67,9 +67,11 @@ added-sent o s h =
 pub rows-sent : (o : Observations) → AllSent o → Each SentRow (Rows.rows o .rows)
 unfolding Rows.rows
 rows-sent o h =
-    either (λ (a : RowsAnswer). Each SentRow (a .rows)) (Ratio.readable (o .observations)) _ _
-    (each-map SentRow (Rows.rowOf (o .«num_observations»)) (row-sent (o .«num_observations»)) h)
+    let useBytes = o .«use_byte_loss_ratio» in
+    either (λ (a : RowsAnswer). Each SentRow (a .rows)) (Ratio.readable useBytes (o .observations)) _ _
+    (each-map SentRow (Rows.rowOf useBytes (o .«num_observations»)) (row-sent useBytes (o .«num_observations»)) h)
     (each-replicate SentRow 15 Rows.emptyRow (ofBits-fits binary64 0))
   where
-    row-sent : (count : ℕ) (o : Observation) → SentObservation o → SentRow (Rows.rowOf count o)
-    row-sent count o h = unfold Rows.rowOf in either SentRow (o .«is_initialized») _ Rows.emptyRow h (ofBits-fits binary64 0)
+    row-sent : (useBytes : Bool) (count : ℕ) (o : Observation) → SentObservation o → SentRow (Rows.rowOf useBytes count o)
+    row-sent useBytes count o h =
+        unfold Rows.rowOf in either SentRow (o .«is_initialized») _ Rows.emptyRow (either SentRow useBytes _ _ h h) (ofBits-fits binary64 0)

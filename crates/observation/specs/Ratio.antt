@@ -26,32 +26,41 @@ use Rattle.observation.specs.declared.Observations.{Observations}
 unfoldable pub age : ℕ → ℕ → ℕ
 age count id = cond (ltb id count) (count - 1 - id) Config.«observation_window_size»
 
--- an observation measured in bytes
-abbrev pub measured : ℕ → Observation → Measured
-measured count o = record { age = age count (o .id); total = o .size; lost = o .«lost_size» }
+-- an observation's total and its lost part: in bytes, or where `use_byte_loss_ratio` is false in packets (Q-7)
+abbrev pub totalOf : Bool → Observation → ℕ
+totalOf useBytes o = cond useBytes (o .size) (o .«num_packets»)
+
+abbrev pub lostOf : Bool → Observation → ℕ
+lostOf useBytes o = cond useBytes (o .«lost_size») (o .«num_lost_packets»)
+
+abbrev pub measured : Bool → ℕ → Observation → Measured
+measured useBytes count o = record { age = age count (o .id); total = totalOf useBytes o; lost = lostOf useBytes o }
 
 -- "sums run in slot order": the observations of the initialised slots, in the order of the slots
-unfoldable pub window : ℕ → List Observation → List Measured
-window count [] = []
-window count (o ∷ os) = cond (o .«is_initialized») (measured count o ∷ window count os) (window count os)
+unfoldable pub window : Bool → ℕ → List Observation → List Measured
+window useBytes count [] = []
+window useBytes count (o ∷ os) =
+    cond (o .«is_initialized») (measured useBytes count o ∷ window useBytes count os) (window useBytes count os)
 
--- "a size beyond 2^53 in magnitude going to a float" is refused: whether both of an observation go
-abbrev pub floats : Observation → Bool
-floats o = Size.inFloatRange (pos (o .size)) && Size.inFloatRange (pos (o .«lost_size»))
+-- "a size beyond 2^53 in magnitude going to a float" is refused: whether both of an observation go. "a count of packets goes to the nearest and is
+-- never refused" (Q-7)
+abbrev pub floats : Bool → Observation → Bool
+floats useBytes o = cond useBytes (Size.inFloatRange (pos (o .size)) && Size.inFloatRange (pos (o .«lost_size»))) true
 
 -- those of a slot, where it is initialised, and those of every such slot
-abbrev pub legible : Observation → Bool
-legible o = cond (o .«is_initialized») (floats o) true
+abbrev pub legible : Bool → Observation → Bool
+legible useBytes o = cond (o .«is_initialized») (floats useBytes o) true
 
-unfoldable pub readable : List Observation → Bool
-readable [] = true
-readable (o ∷ os) = legible o && readable os
+unfoldable pub readable : Bool → List Observation → Bool
+readable useBytes [] = true
+readable useBytes (o ∷ os) = legible useBytes o && readable useBytes os
 
 -- ---- average_reported_loss_ratio
 
 unfoldable pub averageReportedLossRatio : Observations → FloatAnswer
 averageReportedLossRatio o =
-    cond (readable (o .observations)) (answered (lossRatio (window (o .«num_observations») (o .observations)))) refused
+    let useBytes = o .«use_byte_loss_ratio» in
+    cond (readable useBytes (o .observations)) (answered (lossRatio (window useBytes (o .«num_observations») (o .observations)))) refused
 
 -- ---- calculate_instant_upper_bound
 

@@ -1,5 +1,5 @@
 -- Document 01's starred values for observations: a span of 250,000,000 ns completes none and 250,000,001 one; one observation with 50 of 1,000
--- bytes lost sets no ceiling, and 100 of 1,000 one of 2,000,000 bit/s. Assumes nothing.
+-- bytes lost sets no ceiling, and 100 of 1,000 one of 2,000,000 bit/s. Loss is by bytes. Assumes nothing.
 use Prim.Native.Nat.{ℕ, _+_, _-_}
 use mathlib.Core.Path.{refl}
 use mathlib.Core.Bool.{true, false}
@@ -25,7 +25,7 @@ after span lost =
     record { «num_packets» = 1; «num_lost_packets» = 0; «total_size» = 1000 - lost; «lost_size» = 0; «last_send_time» = 7 } in
     let gone : PacketResultsSummary =
     record { «num_packets» = 1; «num_lost_packets» = 1; «total_size» = lost; «lost_size» = lost; «last_send_time» = 7 + span } in
-    added (added (cleared 0) received .observations) gone
+    added (added (cleared true 0) received .observations) gone
 
 -- the ceiling that is read then, as the bits of its rate
 abbrev ceiling : AddedAnswer → ℕ

@@ -40,10 +40,12 @@ dummy =
       «is_initialized» = false;
     }
 
--- "An ALR change empties window, running sums, reference time and loss ceiling. It keeps the observation count" (reset_observations); at the start that is 0
-unfoldable pub cleared : ℕ → Observations
-cleared count =
+-- "An ALR change empties window, running sums, reference time and loss ceiling. It keeps the observation count" (reset_observations), which at the
+-- start is 0, and the profile, "fixed when a controller is made" (Q-7): whether loss is by bytes
+unfoldable pub cleared : Bool → ℕ → Observations
+cleared useBytes count =
     record {
+      «use_byte_loss_ratio» = useBytes;
       «partial_observation» = Partial.none;
       «last_send_time_most_recent_observation» = DistantFuture;
       «num_observations» = count;
@@ -95,6 +97,7 @@ observed p id span =
 unfoldable pub stored : Observations → Observation → Timestamp → Observations
 stored o new last =
     record {
+      «use_byte_loss_ratio» = o .«use_byte_loss_ratio»;
       «partial_observation» = Partial.none;
       «last_send_time_most_recent_observation» = last;
       «num_observations» = o .«num_observations» + 1;
@@ -105,6 +108,7 @@ stored o new last =
 unfoldable pub withCeiling : Observations → Bitrate → Observations
 withCeiling o ceiling =
     record {
+      «use_byte_loss_ratio» = o .«use_byte_loss_ratio»;
       «partial_observation» = o .«partial_observation»;
       «last_send_time_most_recent_observation» = o .«last_send_time_most_recent_observation»;
       «num_observations» = o .«num_observations»;
@@ -116,6 +120,7 @@ withCeiling o ceiling =
 unfoldable pub withPartial : Observations → PartialObservation → Timestamp → Observations
 withPartial o p reference =
     record {
+      «use_byte_loss_ratio» = o .«use_byte_loss_ratio»;
       «partial_observation» = p;
       «last_send_time_most_recent_observation» = reference;
       «num_observations» = o .«num_observations»;

@@ -62,8 +62,10 @@ struct ObservationAnswer {
     refusal: u8,
 }
 
-// What `maybe_add_observation` and `reset_observations` change of the controller.
+// What `maybe_add_observation` and `reset_observations` change of the controller, and the profile,
+// which is fixed when it is made: whether loss is counted in bytes or in packets.
 pub struct Observations {
+    pub use_byte_loss_ratio: bool,
     pub partial_observation: PartialObservation,
     pub last_send_time_most_recent_observation: Timestamp,
     pub num_observations: u64,
@@ -77,6 +79,14 @@ pub struct AddedAnswer {
     pub observations: Observations,
     pub completed: bool,
     pub refusal: u8,
+}
+
+// What an observation has by the profile's measure, and the number of the refusal, with counts 0.0
+// beside any.
+struct Counts {
+    total: f64,
+    lost: f64,
+    refusal: u8,
 }
 
 // The weighted sums of the loss ratio, and the number of the refusal, with sums 0.0 beside any.
@@ -249,17 +259,18 @@ impl ObservationAnswer {
 // ---- the window
 
 impl Observations {
-    pub fn new() -> Observations
-        ensures { λ r. ⌜ r ≡ Window.cleared 0 ⌝ }
+    pub fn new(use_byte_loss_ratio: bool) -> Observations
+        ensures { λ r. ⌜ r ≡ Window.cleared «use_byte_loss_ratio» 0 ⌝ }
     {
-        cleared(0)
+        cleared(use_byte_loss_ratio, 0)
     }
 
-    // reset_observations: called when ALR goes on or off. The count, and with it the ids, goes on.
+    // reset_observations: called when ALR goes on or off. The profile stays, and the count, and with
+    // it the ids, goes on.
     pub fn reset(self) -> Observations
-        ensures { λ r. ⌜ r ≡ Window.cleared (self .«num_observations») ⌝ }
+        ensures { λ r. ⌜ r ≡ Window.cleared (self .«use_byte_loss_ratio») (self .«num_observations») ⌝ }
     {
-        cleared(self.num_observations)
+        cleared(self.use_byte_loss_ratio, self.num_observations)
     }
 
     // After the report's summary, which is the Rust's None where there are no packets. The refusals
@@ -350,6 +361,7 @@ impl Observations {
         observations[slot] = observation;
         let cached_instant_upper_bound = self.cached_instant_upper_bound;
         Observations {
+            use_byte_loss_ratio: self.use_byte_loss_ratio,
             partial_observation: PartialObservation::new(),
             last_send_time_most_recent_observation: last_send_time,
             num_observations: self.num_observations + 1,
@@ -365,6 +377,7 @@ impl Observations {
         let last_send_time_most_recent_observation = self.last_send_time_most_recent_observation;
         let observations = self.observations;
         Observations {
+            use_byte_loss_ratio: self.use_byte_loss_ratio,
             partial_observation,
             last_send_time_most_recent_observation,
             num_observations: self.num_observations,
@@ -380,6 +393,7 @@ impl Observations {
         let observations = self.observations;
         let cached_instant_upper_bound = self.cached_instant_upper_bound;
         Observations {
+            use_byte_loss_ratio: self.use_byte_loss_ratio,
             partial_observation: partial,
             last_send_time_most_recent_observation: reference,
             num_observations: self.num_observations,
@@ -399,11 +413,12 @@ impl Observations {
     }
 }
 
-fn cleared(num_observations: u64) -> Observations
-    ensures { λ r. ⌜ r ≡ Window.cleared «num_observations» ⌝ }
+fn cleared(use_byte_loss_ratio: bool, num_observations: u64) -> Observations
+    ensures { λ r. ⌜ r ≡ Window.cleared «use_byte_loss_ratio» «num_observations» ⌝ }
 {
     let dummy = Observation::dummy();
     Observations {
+        use_byte_loss_ratio,
         partial_observation: PartialObservation::new(),
         last_send_time_most_recent_observation: Timestamp::DistantFuture,
         num_observations,
@@ -446,6 +461,45 @@ fn age(num_observations: u64, id: u64) -> u64
     config::OBSERVATION_WINDOW_SIZE
 }
 
+impl Counts {
+    const REFUSED: Counts = Counts {
+        total: 0.0,
+        lost: 0.0,
+        refusal: 7,
+    };
+}
+
+impl Observation {
+    // Its bytes or its packets, as floats. 7 where a size goes to no float; packets go to the
+    // nearest one.
+    fn counts(self, use_byte_loss_ratio: bool) -> Counts
+        ensures { λ r. ⌜ r ≡ Steps.counts «use_byte_loss_ratio» self ⌝ }
+    {
+        if !use_byte_loss_ratio {
+            return Counts {
+                total: std::num::nearest_u64_to_f64(self.num_packets),
+                lost: std::num::nearest_u64_to_f64(self.num_lost_packets),
+                refusal: 0,
+            };
+        }
+        let size = as_bytes_f64(self.size);
+        let size_refusal = size.refusal;
+        if size_refusal != 0 {
+            return Counts::REFUSED;
+        }
+        let lost_size = as_bytes_f64(self.lost_size);
+        let lost_refusal = lost_size.refusal;
+        if lost_refusal != 0 {
+            return Counts::REFUSED;
+        }
+        Counts {
+            total: size.value,
+            lost: lost_size.value,
+            refusal: 0,
+        }
+    }
+}
+
 impl LossSums {
     const NONE: LossSums = LossSums {
         total: 0.0,
@@ -460,8 +514,13 @@ impl LossSums {
     };
 
     // One slot more. The first refusal stays.
-    fn add(self, observation: Observation, num_observations: u64) -> LossSums
-        ensures { λ r. ⌜ r ≡ Steps.summed «num_observations» self observation ⌝ }
+    fn add(
+        self,
+        use_byte_loss_ratio: bool,
+        observation: Observation,
+        num_observations: u64,
+    ) -> LossSums
+        ensures { λ r. ⌜ r ≡ Steps.summed «use_byte_loss_ratio» «num_observations» self observation ⌝ }
     {
         let before = self.refusal;
         if before != 0 {
@@ -470,20 +529,15 @@ impl LossSums {
         if !observation.is_initialized {
             return self;
         }
-        let size = as_bytes_f64(observation.size);
-        let size_refusal = size.refusal;
-        if size_refusal != 0 {
-            return LossSums::REFUSED;
-        }
-        let lost_size = as_bytes_f64(observation.lost_size);
-        let lost_refusal = lost_size.refusal;
-        if lost_refusal != 0 {
+        let counts = observation.counts(use_byte_loss_ratio);
+        let refusal = counts.refusal;
+        if refusal != 0 {
             return LossSums::REFUSED;
         }
         let instant_temporal_weight = logarithm::weight(age(num_observations, observation.id));
         LossSums {
-            total: self.total + instant_temporal_weight * size.value,
-            lost: self.lost + instant_temporal_weight * lost_size.value,
+            total: self.total + instant_temporal_weight * counts.total,
+            lost: self.lost + instant_temporal_weight * counts.lost,
             refusal: 0,
         }
     }
@@ -514,15 +568,16 @@ impl Observations {
 
     // In slot order.
     fn loss_sums(self) -> LossSums
-        ensures { λ r. ⌜ r ≡ foldl (Steps.summed (self .«num_observations»)) Steps.noSums (self .observations) ⌝ }
+        ensures { λ r. ⌜ r ≡ foldl (Steps.summed (self .«use_byte_loss_ratio») (self .«num_observations»)) Steps.noSums (self .observations) ⌝ }
     {
+        let use_byte_loss_ratio = self.use_byte_loss_ratio;
         let observations = self.observations;
         let num_observations = self.num_observations;
         let mut sums = LossSums::NONE;
         let mut i: usize = 0;
         while i < 15 {
             let observation = observations[i];
-            sums = sums.add(observation, num_observations);
+            sums = sums.add(use_byte_loss_ratio, observation, num_observations);
             i += 1;
         }
         sums
@@ -627,11 +682,14 @@ fn received_as_kb(size: u64, lost_size: u64) -> f64
 impl Observation {
     // Its row when so many observations are complete; an empty one where the slot is. 7 where a
     // size goes to no float.
-    fn row(self, num_observations: u64) -> RowAnswer
-        ensures { λ r. ⌜ r ≡ Steps.row «num_observations» self ⌝ }
+    fn row(self, use_byte_loss_ratio: bool, num_observations: u64) -> RowAnswer
+        ensures { λ r. ⌜ r ≡ Steps.row «use_byte_loss_ratio» «num_observations» self ⌝ }
     {
         if !self.is_initialized {
             return RowAnswer::EMPTY;
+        }
+        if !use_byte_loss_ratio {
+            return self.row_of_packets(num_observations);
         }
         let total = as_kb(self.size);
         let total_refusal = total.refusal;
@@ -654,6 +712,21 @@ impl Observation {
         };
         RowAnswer { row, refusal: 0 }
     }
+
+    fn row_of_packets(self, num_observations: u64) -> RowAnswer
+        ensures { λ r. ⌜ r ≡ Steps.rowOfPackets «num_observations» self ⌝ }
+    {
+        let sending_rate = self.sending_rate;
+        let row = Row {
+            is_initialized: true,
+            weight: logarithm::weight(age(num_observations, self.id)),
+            lost: std::num::nearest_u64_to_f64(self.num_lost_packets),
+            received: std::num::nearest_u64_to_f64(self.num_received_packets),
+            total: std::num::nearest_u64_to_f64(self.num_packets),
+            sending_rate,
+        };
+        RowAnswer { row, refusal: 0 }
+    }
 }
 
 impl Observations {
@@ -661,6 +734,7 @@ impl Observations {
     pub fn rows(self) -> RowsAnswer
         ensures { λ r. ⌜ r ≡ Rows.rows self ⌝ }
     {
+        let use_byte_loss_ratio = self.use_byte_loss_ratio;
         let observations = self.observations;
         let num_observations = self.num_observations;
         let empty = EMPTY_ROW;
@@ -668,7 +742,7 @@ impl Observations {
         let mut slot: usize = 0;
         while slot < 15 {
             let observation = observations[slot];
-            let answer = observation.row(num_observations);
+            let answer = observation.row(use_byte_loss_ratio, num_observations);
             let refusal = answer.refusal;
             if refusal != 0 {
                 return RowsAnswer {

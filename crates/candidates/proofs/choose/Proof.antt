@@ -13,17 +13,18 @@ use Rattle.candidates.proofs.choose.Statement.{statement}
 use Rattle.candidates.proofs.choose.Tie as tie
 
 abbrev Inv-loop : tie.InvT-loop
-Inv-loop current rows ratio places used best₀ i₀ best i =
-    (i ≤ used) × (length places ≡ 6) × (foldl (better rows ratio) best (drop i (take used places)) ≡ foldl (better rows ratio) best₀ (take used places))
+Inv-loop use-byte-loss-ratio current rows ratio places used best₀ i₀ best i =
+    let next = better use-byte-loss-ratio rows ratio in
+    (i ≤ used) × (length places ≡ 6) × (foldl next best (drop i (take used places)) ≡ foldl next best₀ (take used places))
 
 abbrev μ-loop : tie.MeasureT-loop
-μ-loop current rows ratio places used best₀ i₀ best i = used - i
+μ-loop use-byte-loss-ratio current rows ratio places used best₀ i₀ best i = used - i
 
 used-requires : tie.Need-used-requires Inv-loop μ-loop
 used-requires c κs = search needs
 
 loop-holds : tie.Need-loop-holds Inv-loop μ-loop
-loop-holds c = (omega arith, simp length-map at (c .before .before .good .1 .0 .1 .1 .0 .1 .0 .1), refl)
+loop-holds c = (omega arith, simp length-map at (c .before .before .good .1 .1 .0 .1 .1 .0 .1 .0 .1), refl)
 
 mul-candidate : tie.Need-mul-candidate Inv-loop μ-loop
 mul-candidate c = search needs

@@ -12,18 +12,19 @@ use Rattle.likelihood.proofs.get_objective.Statement.{statement}
 use Rattle.likelihood.proofs.get_objective.Tie as tie
 
 abbrev Inv-loop : tie.InvT-loop
-Inv-loop ratio candidate rows bias sum₀ i₀ sum i =
-    (i ≤ 15) × (length rows ≡ 15) × (foldl (addTerms candidate (bias .value)) sum (drop i rows) ≡ objective rows ratio candidate)
+Inv-loop use-byte-loss-ratio ratio candidate rows bias sum₀ i₀ sum i =
+    (i ≤ 15) × (length rows ≡ 15)
+    × (foldl (addTerms use-byte-loss-ratio candidate (bias .value)) sum (drop i rows) ≡ objective use-byte-loss-ratio rows ratio candidate)
 
 abbrev μ-loop : tie.MeasureT-loop
-μ-loop ratio candidate rows bias sum₀ i₀ sum i = 15 - i
+μ-loop use-byte-loss-ratio ratio candidate rows bias sum₀ i₀ sum i = 15 - i
 
 get-high-bandwidth-bias-requires : tie.Need-get-high-bandwidth-bias-requires Inv-loop μ-loop
 get-high-bandwidth-bias-requires c κs = search needs
 
 loop-holds : tie.Need-loop-holds Inv-loop μ-loop
 unfolding objective
-loop-holds c = (omega arith, c .before .good .0 .1 .0 .1, rw (c .get-high-bandwidth-bias .ensures))
+loop-holds c = (omega arith, c .before .good .1 .0 .1 .0 .1, rw (c .get-high-bandwidth-bias .ensures))
 
 mul-row : tie.Need-mul-row Inv-loop μ-loop
 mul-row c = omega arith
@@ -43,13 +44,13 @@ loop-less c = omega arith
 loop-again : tie.Need-loop-again Inv-loop μ-loop
 loop-again c =
     let b = c .before .before .before in
-    let i : b .loop .i < length (b .before .before .args .t1) = omega (arith, b .loop .inv .1) in
+    let i : b .loop .i < length (b .before .before .args .t2) = omega (arith, b .loop .inv .1) in
     (omega arith, b .loop .inv .1, fold-again _ _ _ _ _ _ _ i (c .add-terms .ensures) (b .loop .inv .2))
 
 returns : tie.Need-returns Inv-loop μ-loop
 returns c =
     let b = c .before in
-    fold-end (addTerms _ _) _ _ _ (b .loop .i) (omega (arith, b .loop .inv .1)) (b .loop .inv .2)
+    fold-end (addTerms _ _ _) _ _ _ (b .loop .i) (omega (arith, b .loop .inv .1)) (b .loop .inv .2)
 
 pub get-objective-spec : {M : Type 1} → statement M
 get-objective-spec =

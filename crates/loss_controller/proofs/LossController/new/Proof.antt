@@ -3,20 +3,11 @@ use borrow.Author.Needs.{needs}
 use Rattle.loss_controller.proofs.LossController.new.Statement.{statement}
 use Rattle.loss_controller.proofs.LossController.new.Tie as tie
 
-new-requires : tie.Need-new-requires
-new-requires c κs = search needs
-
-new-requires-2 : tie.Need-new-requires-2
-new-requires-2 c κs = search needs
-
-infinity-requires : tie.Need-infinity-requires
-infinity-requires c κs = search needs
-
-infinity-requires-2 : tie.Need-infinity-requires-2
-infinity-requires-2 c κs = search needs
+with-profile-requires : tie.Need-with-profile-requires
+with-profile-requires c κs = search needs
 
 returns : tie.Need-returns
-returns c = rw (c .infinity2 .ensures, c .before .infinity .ensures, c .before .before .new2 .ensures, c .before .before .before .new .ensures)
+returns c = c .with-profile .ensures
 
 pub new-spec : {M : Type 1} → statement M
-new-spec = tie.close (tie.spec new-requires new-requires-2 infinity-requires infinity-requires-2 returns)
+new-spec = tie.close (tie.spec with-profile-requires returns)

@@ -1,9 +1,8 @@
 -- `observation::LossSums::add` meets its contract. Assumes nothing.
 use borrow.Author.Needs.{needs}
 use borrow.Author.Tests.{eq-eqb, ne-eqb, not-true, not-false}
-use Rattle.bandwidth.proofs.Exact.{held, not-held}
-use Rattle.bandwidth.specs.Size.{float}
-use Rattle.observation.specs.Steps.{summed}
+use Rattle.observation.specs.Steps.{counts, summed}
+use Rattle.observation.proofs.Sums.{counted, not-counted}
 use Rattle.observation.proofs.LossSums.add.Statement.{statement}
 use Rattle.observation.proofs.LossSums.add.Tie as tie
 
@@ -14,32 +13,21 @@ returns c = rw (ne-eqb _ _ (c .if1 .taken))
 returns-2 : tie.Need-returns-2
 unfolding summed
 returns-2 c =
-    let b = c .before .before .before in
-    rw (eq-eqb _ _ (c .before .before .if1 .left), not-true (b .args .observation .«is_initialized») (c .if2 .taken))
+    let b = c .before .before in
+    rw (eq-eqb _ _ (b .if1 .left), not-true (b .before .args .observation .«is_initialized») (c .if2 .taken))
 
-as-bytes-f64-requires : tie.Need-as-bytes-f64-requires
-as-bytes-f64-requires c κs = search needs
+counts-requires : tie.Need-counts-requires
+counts-requires c κs = search needs
 
 returns-3 : tie.Need-returns-3
 unfolding summed
 returns-3 c =
     let b = c .before .before in
-    rw (eq-eqb _ _ (b .before .before .if1 .left), not-false (b .before .before .before .args .observation .«is_initialized») (b .if2 .left))
-    (rw (not-held _ (rw (c .before .as-bytes-f64 .ensures) at (c .if3 .taken))))
-
-as-bytes-f64-requires-2 : tie.Need-as-bytes-f64-requires-2
-as-bytes-f64-requires-2 c κs = search needs
-
-returns-4 : tie.Need-returns-4
-unfolding summed
-returns-4 c =
-    let b = c .before .before .before in
-    let d = b .before in
+    let a = b .before .before .before .args in
     rw (
-      eq-eqb _ _ (d .before .before .if1 .left),
-      not-false (d .before .before .before .args .observation .«is_initialized») (d .if2 .left),
-      held _ (rw (b .as-bytes-f64 .ensures) at (c .before .before .if3 .left)),
-      not-held _ (rw (c .before .as-bytes-f642 .ensures) at (c .if4 .taken)),
+      eq-eqb _ _ (b .before .before .if1 .left),
+      not-false (a .observation .«is_initialized») (b .if2 .left),
+      not-counted (a .use-byte-loss-ratio) (a .observation) (c .before .counts .ensures) (c .if3 .taken),
     )
 
 age-requires : tie.Need-age-requires
@@ -48,20 +36,19 @@ age-requires c κs = search needs
 weight-requires : tie.Need-weight-requires
 weight-requires c κs = search needs
 
-returns-5 : tie.Need-returns-5
-unfolding summed float
-returns-5 c =
+returns-4 : tie.Need-returns-4
+unfolding summed
+returns-4 c =
     let w = c .before .before .before .before in
-    let l = w .before .before .before in
-    let s = l .before .before in
-    let d = s .before in
+    let k = w .before .before .before in
+    let b = k .before in
+    let a = b .before .before .before .args in
+    let n = counted (a .use-byte-loss-ratio) (a .observation) (k .counts .ensures) (w .before .before .if3 .left) in
     rw (
-      eq-eqb _ _ (d .before .before .if1 .left),
-      not-false (d .before .before .before .args .observation .«is_initialized») (d .if2 .left),
-      s .as-bytes-f64 .ensures,
-      l .as-bytes-f642 .ensures,
-      held _ (rw (s .as-bytes-f64 .ensures) at (l .before .if3 .left)),
-      held _ (rw (l .as-bytes-f642 .ensures) at (w .before .before .if4 .left)),
+      eq-eqb _ _ (b .before .before .if1 .left),
+      not-false (a .observation .«is_initialized») (b .if2 .left),
+      n .0,
+      n .1,
       w .weight .ensures,
       w .before .age .ensures,
     )
@@ -72,10 +59,8 @@ add-spec =
     (tie.spec
     returns
     returns-2
-    as-bytes-f64-requires
+    counts-requires
     returns-3
-    as-bytes-f64-requires-2
-    returns-4
     age-requires
     weight-requires
-    returns-5)
+    returns-4)

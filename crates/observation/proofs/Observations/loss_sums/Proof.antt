@@ -12,14 +12,15 @@ use Rattle.observation.proofs.Observations.loss_sums.Statement.{stateme
 use Rattle.observation.proofs.Observations.loss_sums.Tie as tie
 
 abbrev Inv-loop : tie.InvT-loop
-Inv-loop observations num-observations sums₀ i₀ sums i =
-    (i ≤ 15) × (length observations ≡ 15) × (foldl (summed num-observations) sums (drop i observations) ≡ foldl (summed num-observations) sums₀ observations)
+Inv-loop use-byte-loss-ratio observations num-observations sums₀ i₀ sums i =
+    let add = summed use-byte-loss-ratio num-observations in
+    (i ≤ 15) × (length observations ≡ 15) × (foldl add sums (drop i observations) ≡ foldl add sums₀ observations)
 
 abbrev μ-loop : tie.MeasureT-loop
-μ-loop observations num-observations sums₀ i₀ sums i = 15 - i
+μ-loop use-byte-loss-ratio observations num-observations sums₀ i₀ sums i = 15 - i
 
 loop-holds : tie.Need-loop-holds Inv-loop μ-loop
-loop-holds c = (search needs, simp length-map at (c .before .good .0 .1 .1 .1 .1 .1 .0 .1 .0 .1), refl)
+loop-holds c = (search needs, simp length-map at (c .before .good .0 .1 .1 .1 .1 .1 .1 .0 .1 .0 .1), refl)
 
 mul-observation : tie.Need-mul-observation Inv-loop μ-loop
 mul-observation c = search needs
@@ -45,7 +46,8 @@ loop-again c =
 returns : tie.Need-returns Inv-loop μ-loop
 returns c =
     let b = c .before in
-    fold-end (summed (b .before .before .args .self .«num_observations»)) _ _ _ (b .loop .i) (omega (arith, b .loop .inv .1)) (b .loop .inv .2)
+    let o = b .before .before .args .self in
+    fold-end (summed (o .«use_byte_loss_ratio») (o .«num_observations»)) _ _ _ (b .loop .i) (omega (arith, b .loop .inv .1)) (b .loop .inv .2)
 
 pub loss-sums-spec : {M : Type 1} → statement M
 loss-sums-spec =

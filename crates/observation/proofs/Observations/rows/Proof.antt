@@ -14,15 +14,16 @@ use Rattle.observation.proofs.Observations.rows.Statement.{statement}
 use Rattle.observation.proofs.Observations.rows.Tie as tie
 
 abbrev Inv-loop : tie.InvT-loop
-Inv-loop observations num-observations empty rows₀ slot₀ rows i =
-    (i ≤ 15) × (length observations ≡ 15) × (length rows ≡ 15) × (readable (drop i observations) ≡ readable observations)
-    × (take i rows ≡ take i (map (rowOf num-observations) observations))
+Inv-loop use-byte-loss-ratio observations num-observations empty rows₀ slot₀ rows i =
+    (i ≤ 15) × (length observations ≡ 15) × (length rows ≡ 15)
+    × (readable use-byte-loss-ratio (drop i observations) ≡ readable use-byte-loss-ratio observations)
+    × (take i rows ≡ take i (map (rowOf use-byte-loss-ratio num-observations) observations))
 
 abbrev μ-loop : tie.MeasureT-loop
-μ-loop observations num-observations empty rows₀ slot₀ rows i = 15 - i
+μ-loop use-byte-loss-ratio observations num-observations empty rows₀ slot₀ rows i = 15 - i
 
 loop-holds : tie.Need-loop-holds Inv-loop μ-loop
-loop-holds c = (search needs, simp length-map at (c .before .good .0 .1 .1 .1 .1 .1 .0 .1 .0 .1), refl, refl, refl)
+loop-holds c = (search needs, simp length-map at (c .before .good .0 .1 .1 .1 .1 .1 .1 .0 .1 .0 .1), refl, refl, refl)
 
 mul-observation : tie.Need-mul-observation Inv-loop μ-loop
 mul-observation c = search needs
@@ -38,7 +39,7 @@ unfolding rows
 returns c =
     let b = c .before .before .before .before in
     let l : b .loop .slot < length (b .before .before .args .self .observations) = omega (arith, b .loop .inv .1) in
-    rw (sym (not-read _ _ (b .loop .slot) _ l (c .before .row .ensures) (c .if1 .taken) (b .loop .inv .3)))
+    rw (sym (not-read _ _ _ (b .loop .slot) _ l (c .before .row .ensures) (c .if1 .taken) (b .loop .inv .3)))
 
 mul-rows : tie.Need-mul-rows Inv-loop μ-loop
 mul-rows c = search needs
@@ -63,8 +64,9 @@ loop-again c =
       search needs,
       b .loop .inv .1,
       simp length-set (b .loop .inv .2),
-      read-again _ _ i _ l e z (b .loop .inv .3),
-      fill-again (rowOf (o .«num_observations»)) _ (o .observations) i _ _ (omega (arith, b .loop .inv .2)) l (slot-row _ _ e z) (b .loop .inv .4),
+      read-again _ _ _ i _ l e z (b .loop .inv .3),
+      fill-again (rowOf (o .«use_byte_loss_ratio») (o .«num_observations»)) _ (o .observations) i _ _ (omega (arith, b .loop .inv .2)) l
+          (slot-row _ _ _ e z) (b .loop .inv .4),
     )
 
 returns-2 : tie.Need-returns-2 Inv-loop μ-loop
@@ -74,8 +76,10 @@ returns-2 c =
     let o = b .before .before .args .self in
     let i = b .loop .slot in
     let l : length (o .observations) ≤ i = omega (arith, b .loop .inv .1) in
-    rw (sym (all-read (o .observations) i l (b .loop .inv .3)))
-    (rw (fill-end (rowOf (o .«num_observations»)) (b .loop .rows) (o .observations) i (omega (arith, b .loop .inv .2)) l (b .loop .inv .4)))
+    rw (sym (all-read (o .«use_byte_loss_ratio») (o .observations) i l (b .loop .inv .3)))
+    (rw
+    (fill-end (rowOf (o .«use_byte_loss_ratio») (o .«num_observations»)) (b .loop .rows) (o .observations) i (omega (arith, b .loop .inv .2)) l
+    (b .loop .inv .4)))
 
 pub rows-spec : {M : Type 1} → statement M
 rows-spec =
