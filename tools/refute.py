@@ -1,7 +1,7 @@
 #!/usr/bin/env python3
 """refute.py [EDIT..]: for each must-fail edit of crate history, or for those named, that the edited claims are false.
 Under the edit, the tests of the claims (crates/history/proofs/Tested.antt, which proves that the claims make them true)
-are computed on the list that the edit names as 'list NAME' (crates/history/proofs/Sample.antt), and from a false test the
+are computed, under both profiles, on the list that the edit names as 'list NAME' (crates/history/proofs/Sample.antt), and from a false test the
 negation of the edited claims is proved: of Unrefused1, of RatioAtMostOne and Never6 together, of StaysFinite and AtMost
 together, or of Demand3 and Refusals2 together. Works on a copy under target/refute; the crates below history are taken as they were proved last.
 Exit status 1 if an edit is not refuted; one that names no list is not, unless it stands in NOT_COMPUTED."""

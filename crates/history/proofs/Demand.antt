@@ -1,7 +1,7 @@
 -- Demand 3: after every list of calls. Assumes nothing.
 use Prim.Native.Nat.{ℕ}
-use mathlib.Core.Path.{_≡_, subst}
-use mathlib.Core.Bool.{true, cond}
+use mathlib.Core.Path.{_≡_, _∙_, subst}
+use mathlib.Core.Bool.{Bool, cond}
 use native.Mathlib.Omega.{arith}
 use borrow.Author.Tests.{ne-eqb}
 use lib.Dec.{T, eqb}
@@ -16,12 +16,15 @@ use Rattle.bandwidth.specs.declared.OptionBitrate.the-variants.{Some}
 use Rattle.bandwidth.proofs.Limited.{LimitedRate, limited-finite, smaller-limited}
 use Rattle.candidates.specs.Bound.{atMost}
 use Rattle.observation.specs.Ratio.{cached}
+use Rattle.loss_controller.specs.Controller.{initial}
 use Rattle.loss_controller.specs.Result.{published, lossBasedResult, averageReportedLossRatio}
 use Rattle.loss_controller.specs.declared.LossController.{LossController}
 use Rattle.history.specs.History.{History, after}
 use Rattle.history.specs.WeighedPairs.{weighedLost, weighedTotal}
 use Rattle.history.specs.Run.{left, told}
+use Rattle.history.specs.Profile.{profileOf}
 use Rattle.history.specs.Demand.{UnderLossCeiling, Demand, Demand3}
+use Rattle.history.proofs.Profile.{keeps-profile}
 use Rattle.history.proofs.Weighed.{tied-counted, tied-ratio, tied-ceiling}
 use Rattle.history.proofs.Reached.{Reached, ceiling-not-negative}
 use Rattle.history.proofs.Step.{reached}
@@ -69,7 +72,7 @@ module _ (c : LossController) (h : History) (r : Reached c h) where
 
   -- ---- the claim
 
-  pub demanded : Demand c h
+  pub demanded : Demand (profileOf c) c h
   unfolding averageReportedLossRatio smaller
   demanded =
       let o = c .observations in
@@ -79,11 +82,14 @@ module _ (c : LossController) (h : History) (r : Reached c h) where
         near = λ some. let ratio = tied-ratio o h t some in record { taken = ratio .0; close = ratio .1 };
         clear = λ published e. limited-plain published (published-limited published e);
         capped = λ some six. let set = tied-ceiling o h t some six in
-            published-by (λ (r : Bitrate). UnderLossCeiling (r .bps) (weighedLost true h) (weighedTotal true h))
+            published-by (λ (r : Bitrate). UnderLossCeiling (r .bps) (weighedLost (profileOf c) h) (weighedTotal (profileOf c) h))
             (λ f. rw (ne-eqb (o .«num_observations») 0 (λ z. omega (arith, tied-counted o h t some)), set .0)
             (minimum-under (set .1) (omega (arith, six)) (delayed .bps) (limited-plain delayed (delayed-limited f))));
       }
 
--- and every list leaves one
+-- and every list leaves one, of the profile that it began with
 pub demand-3 : Demand3
-demand-3 calls = demanded (left calls) (after (told calls)) (reached calls)
+demand-3 useBytes calls =
+    let c = left useBytes calls in
+    let h = after (told useBytes calls) in
+    subst (λ (b : Bool). Demand b c h) (keeps-profile .kept (initial useBytes) calls ∙ keeps-profile .made useBytes) (demanded c h (reached useBytes calls))

@@ -38,9 +38,9 @@ reports-hand (call ∷ later) n =
     (reports-hand later (and-r (isReport call) (all isReport later) n))
 
 pub stays-finite : StaysFinite
-stays-finite calls = record {
-  reports = λ later n. kept later _ _ (reached calls) (reports-hand later n);
-  calls = λ later n. kept later _ _ (reached calls) n;
+stays-finite useBytes calls = record {
+  reports = λ later n. kept later _ _ (reached useBytes calls) (reports-hand later n);
+  calls = λ later n. kept later _ _ (reached useBytes calls) n;
 }
 
 -- ---- at most 10^15
@@ -52,8 +52,8 @@ up-to-most r l =
     record { plainly = limited-plain r l; below = omega (arith, under .below) }
 
 pub at-most : AtMost
-at-most calls =
-    let r = reached calls in
+at-most useBytes calls =
+    let r = reached useBytes calls in
     record {
       estimate = λ f. up-to-most _ (r .estimator .rates .current f);
       published = λ published e. up-to-most published (published-limited _ _ r published e);

@@ -1,7 +1,7 @@
 -- What a history keeps that no report beyond code 10 is told to: at most fifteen observations and no more than the count, none with a total above 10^12
 -- or with more lost than sent, by either measure. Its window is one that `rounding` bounds. Assumes nothing.
 use Prim.Native.Nat.{ℕ, suc, _+_, _^_, _≤_}
-use mathlib.Core.Path.{_≡_, refl, ap, _∙_}
+use mathlib.Core.Path.{_≡_, refl, ap}
 use mathlib.Core.Bool.{Bool, true, false}
 use mathlib.Core.List.{List, [], _∷_}
 use mathlib.Core.Option as Option

@@ -4,6 +4,7 @@ pub mod Slots
 pub mod Tied
 pub mod Weighed
 pub mod Run
+pub mod Profile
 pub mod Step
 pub mod Under
 pub mod Demand

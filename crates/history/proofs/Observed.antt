@@ -11,7 +11,7 @@ use Rattle.float.proofs.Refusal.{agreed, either, tested}
 use Rattle.time.specs.Delta as Delta
 use Rattle.time.specs.declared.TimeDelta.{TimeDelta}
 use Rattle.time.specs.declared.Timestamp.the-variants.{Exact}
-use Rattle.packets.specs.Summary.{packets, refused, summaryOf}
+use Rattle.packets.specs.Summary.{summaryOf}
 use Rattle.packets.specs.declared.PacketResultsSummary.{PacketResultsSummary}
 use Rattle.packets.proofs.Totals.{packet-taken, lost-part, summary-holds}
 use Rattle.observation.specs.Partial as Partial

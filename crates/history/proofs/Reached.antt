@@ -110,9 +110,9 @@ pub record Reached (c : LossController) (h : History) : Type 0 where
   pub inputs : SoundInputs (c .inputs)
 
 -- cleared observations are sound
-pub cleared-sound : (count : ℕ) → SoundObservations (Window.cleared count)
+pub cleared-sound : (useBytes : Bool) (count : ℕ) → SoundObservations (Window.cleared useBytes count)
 unfolding Window.cleared
-cleared-sound count = record { sent = cleared-sent count; timely = tt }
+cleared-sound useBytes count = record { sent = cleared-sent useBytes count; timely = tt }
 
 abbrev TimelyAnswer : AddedAnswer → Type 0
 TimelyAnswer a = Timely (a .observations .«last_send_time_most_recent_observation»)
@@ -127,11 +127,11 @@ added-sound o s k early = record {
       (λ u c. either Timely (Time.isExact (o .«last_send_time_most_recent_observation»)) _ _ (k .timely) early);
 }
 
-pub initial-reached : Reached initial fresh
-initial-reached = record {
-  tied = fresh-tied;
+pub initial-reached : (useBytes : Bool) → Reached (initial useBytes) fresh
+initial-reached useBytes = record {
+  tied = fresh-tied useBytes;
   on = refl;
-  observations = cleared-sound 0;
+  observations = cleared-sound useBytes 0;
   estimator = record { rates = fresh-rates; steady = fresh-steady };
   inputs = record { delay = infinite-taken; acknowledged = infinite-taken; capacity = tt };
 }
@@ -171,7 +171,7 @@ updated-taken c h r f =
     let capacity = capacity-holds (Setters.isInAlr c) (c .inputs .«link_capacity_estimate») (i .capacity) in
     let fit = bound-holds b capacity (k .rates .limit .holds) (ceiling-not-negative o h (r .tied) .holds) (i .delay .holds) in
     let rows = rows-sent o (r .observations .sent) in
-    let choice = chosen (e .«current_estimate») b (Rows.rows o .rows) (ratio .value) (k .rates .current f) (i .delay .limited)
+    let choice = chosen (o .«use_byte_loss_ratio») (e .«current_estimate») b (Rows.rows o .rows) (ratio .value) (k .rates .current f) (i .delay .limited)
     (i .acknowledged .limited) fit rows in
     checked-by Taken (Rows.rows o .refusal)
     (λ z. checked-by Taken (ratio .refusal)

@@ -8,7 +8,7 @@ use Rattle.history.proofs.Step.{any-answer, reached}
 
 pub refusals : Refusals2
 unfolding averageReportedLossRatio
-refusals calls = record {
-  each = λ call. any-answer _ _ (reached calls) call .told;
-  ratio = ap (λ (a : FloatAnswer). a .refusal) (tied-reported _ _ (reached calls .tied));
+refusals useBytes calls = record {
+  each = λ call. any-answer _ _ (reached useBytes calls) call .told;
+  ratio = ap (λ (a : FloatAnswer). a .refusal) (tied-reported _ _ (reached useBytes calls .tied));
 }

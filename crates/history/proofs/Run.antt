@@ -1,4 +1,5 @@
 -- Induction over a run: for any property of a controller and a history. Assumes nothing.
+use mathlib.Core.Bool.{Bool}
 use mathlib.Core.List.{List, [], _∷_, foldl}
 use Rattle.loss_controller.specs.Controller.{initial}
 use Rattle.loss_controller.specs.declared.LossController.{LossController}
@@ -14,5 +15,5 @@ module _ (P : LossController → History → Type 0) (kept : (c : LossController
   along [] c h p = p
   along (call ∷ calls) c h p = along calls (next c call) (fed h (toldOf c call)) (kept c h call p)
 
-  pub always : P initial fresh → (calls : List Call) → P (left calls) (after (told calls))
-  always start calls = along calls initial fresh start
+  pub always : (useBytes : Bool) → P (initial useBytes) fresh → (calls : List Call) → P (left useBytes calls) (after (told useBytes calls))
+  always useBytes start calls = along calls (initial useBytes) fresh start

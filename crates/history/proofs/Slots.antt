@@ -127,14 +127,14 @@ sumsOf o = record { bytes = o .size; lostBytes = o .«lost_size»; packets = o .
 unfoldable pub held : Observation → Option (ℕ × Sums)
 held o = cond (o .«is_initialized») (some (o .id, sumsOf o)) none
 
+age-is : (n k : ℕ) → 0 < k → Ratio.age (n + k) (k - 1) ≡ n
+unfolding Ratio.age
+age-is n k h = rw (lt-ltb (k - 1) (n + k) (omega arith)) (omega arith)
+
 module _ (useBytes : Bool) where
   abbrev seen : ℕ → Option (ℕ × Sums) → Option Measured
   seen n none = none
   seen n (some (id, s)) = some (record { age = Ratio.age n id; total = pairOf useBytes s .total; lost = pairOf useBytes s .lost })
-
-  age-is : (n k : ℕ) → 0 < k → Ratio.age (n + k) (k - 1) ≡ n
-  unfolding Ratio.age
-  age-is n k h = rw (lt-ltb (k - 1) (n + k) (omega arith)) (omega arith)
 
   by-age-seen : (n m k : ℕ) (l : List Sums) → length l ≤ m → length l ≤ k → filterMap (seen (n + k)) (byAge m k l) ≡ aged n (map (pairOf useBytes) l)
   unfolding filterMap Option·elim byAge aged
@@ -145,36 +145,49 @@ module _ (useBytes : Bool) where
       let e : n + 1 + (k - 1) ≡ n + k = omega arith in
       cc (age-is n k (omega arith), rw e at (by-age-seen (n + 1) m (k - 1) ss (omega arith) (omega arith)))
 
-window-is : (n : ℕ) (os : List Observation) → Ratio.window n os ≡ filterMap (seen true n) (map held os)
+-- what the ratio measures of an observation is its pair
+pair-is : (useBytes : Bool) (o : Observation)
+    → (pairOf useBytes (sumsOf o) .total ≡ Ratio.totalOf useBytes o) × (pairOf useBytes (sumsOf o) .lost ≡ Ratio.lostOf useBytes o)
+pair-is true o = (refl, refl)
+pair-is false o = (refl, refl)
+
+window-is : (useBytes : Bool) (n : ℕ) (os : List Observation) → Ratio.window useBytes n os ≡ filterMap (seen useBytes n) (map held os)
 unfolding Ratio.window held filterMap Option·elim
-window-is n [] = refl
-window-is n (o ∷ os) = go (o .«is_initialized») (window-is n os)
+window-is useBytes n [] = refl
+window-is useBytes n (o ∷ os) = go (o .«is_initialized») (window-is useBytes n os)
   where
-    go : (b : Bool) → Ratio.window n os ≡ filterMap (seen true n) (map held os)
-        → cond b (Ratio.measured n o ∷ Ratio.window n os) (Ratio.window n os)
-        ≡ filterMap (seen true n) (cond b (some (o .id, sumsOf o)) none ∷ map held os)
-    go true e = rw e
+    go : (b : Bool) → Ratio.window useBytes n os ≡ filterMap (seen useBytes n) (map held os)
+        → cond b (Ratio.measured useBytes n o ∷ Ratio.window useBytes n os) (Ratio.window useBytes n os)
+        ≡ filterMap (seen useBytes n) (cond b (some (o .id, sumsOf o)) none ∷ map held os)
+    go true e = rw (pair-is useBytes o .0, pair-is useBytes o .1, e)
     go false e = e
 
 fits : (bytes : ℕ) → bytes ≤ 10 ^ 12 → inFloat binary64 (pos bytes) ≡ true
 unfolding inFloat
 fits bytes h = le-leb bytes (2 ^ 53) (omega arith)
 
--- every size of a sound window goes to a float
-pub sound-readable : (n : ℕ) (os : List Observation) → Each Sound (Ratio.window n os) → Ratio.readable os ≡ true
+-- by bytes both sizes go to floats, and packets are not asked
+sound-floats : (useBytes : Bool) (n : ℕ) (o : Observation) → Sound (Ratio.measured useBytes n o) → Ratio.floats useBytes o ≡ true
+sound-floats true n o s = rw (fits (o .size) (s .bounded), fits (o .«lost_size») (omega (arith, s .bounded, s .part))) refl
+sound-floats false n o s = refl
+
+-- a sound window can be read
+pub sound-readable : (useBytes : Bool) (n : ℕ) (os : List Observation) → Each Sound (Ratio.window useBytes n os) → Ratio.readable useBytes os ≡ true
 unfolding Ratio.window Ratio.readable
-sound-readable n [] s = refl
-sound-readable n (o ∷ os) s = go (o .«is_initialized») refl s (sound-readable n os)
+sound-readable useBytes n [] s = refl
+sound-readable useBytes n (o ∷ os) s = go (o .«is_initialized») refl s (sound-readable useBytes n os)
   where
-    go : (b : Bool) → o .«is_initialized» ≡ b → Each Sound (cond b (Ratio.measured n o ∷ Ratio.window n os) (Ratio.window n os))
-        → (Each Sound (Ratio.window n os) → Ratio.readable os ≡ true) → Ratio.readable (o ∷ os) ≡ true
-    go true e (more s ss) rest = rw (e, fits (o .size) (s .bounded), fits (o .«lost_size») (omega arith)) (rest ss)
+    go : (b : Bool) → o .«is_initialized» ≡ b
+        → Each Sound (cond b (Ratio.measured useBytes n o ∷ Ratio.window useBytes n os) (Ratio.window useBytes n os))
+        → (Each Sound (Ratio.window useBytes n os) → Ratio.readable useBytes os ≡ true) → Ratio.readable useBytes (o ∷ os) ≡ true
+    go true e (more s ss) rest = rw (e, sound-floats useBytes n o s) (rest ss)
     go false e ss rest = rw e (rest ss)
 
 -- the window that the ratio reads of slots that hold a history's observations is the history's, in another order
-pub slots-window : (n : ℕ) (ss : List Sums) (os : List Observation) → map held os ≡ slots n ss → length ss ≤ n → length ss ≤ 15
-    → List·Permᴰ (Ratio.window n os) (aged 0 (map (pairOf true) ss))
+pub slots-window : (useBytes : Bool) (n : ℕ) (ss : List Sums) (os : List Observation) → map held os ≡ slots n ss → length ss ≤ n → length ss ≤ 15
+    → List·Permᴰ (Ratio.window useBytes n os) (aged 0 (map (pairOf useBytes) ss))
 unfolding slots
-slots-window n ss os same counted few =
-    let read : filterMap (seen true n) (byAge 15 n ss) ≡ aged 0 (map (pairOf true) ss) = rw (zero-add n) at (by-age-seen true 0 15 n ss few counted) in
-    rw (window-is n os, same) (rw read at (Permᴰ·filterMap (seen true n) (turned-perm (n % 15) (byAge 15 n ss))))
+slots-window useBytes n ss os same counted few =
+    let read : filterMap (seen useBytes n) (byAge 15 n ss) ≡ aged 0 (map (pairOf useBytes) ss) =
+    rw (zero-add n) at (by-age-seen useBytes 0 15 n ss few counted) in
+    rw (window-is useBytes n os, same) (rw read at (Permᴰ·filterMap (seen useBytes n) (turned-perm (n % 15) (byAge 15 n ss))))

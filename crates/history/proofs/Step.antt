@@ -106,9 +106,9 @@ module _ (c : LossController) (h : History) (r : Reached c h) (E : Type 0) (k : 
         inputs = inputs;
       })
       (λ e. record {
-        tied = rw (r .tied .count) (reset-tied (h .count) (isOn start));
+        tied = rw (r .tied .count) (reset-tied (c .observations .«use_byte_loss_ratio») (h .count) (isOn start));
         on = starts start;
-        observations = cleared-sound (c .observations .«num_observations»);
+        observations = cleared-sound (c .observations .«use_byte_loss_ratio») (c .observations .«num_observations»);
         estimator = r .estimator;
         inputs = inputs;
       })
@@ -242,5 +242,5 @@ pub step-reached : (c : LossController) (h : History) (call : Call) → Reached 
 unfolding fed toldOf
 step-reached c h call r = any-answer c h r call .leaves
 
-pub reached : (calls : List Call) → Reached (left calls) (after (told calls))
-reached calls = always Reached step-reached initial-reached calls
+pub reached : (useBytes : Bool) (calls : List Call) → Reached (left useBytes calls) (after (told useBytes calls))
+reached useBytes calls = always Reached step-reached useBytes (initial-reached useBytes) calls

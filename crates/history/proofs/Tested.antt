@@ -10,7 +10,6 @@ use lib.Ieee.{Float, add, binary64, div, eq, inFloat, isNan, lt, mul, ofBits, of
 use lib.Ieee.Bits.{is-true}
 use lib.Ieee.Positive.{num, den}
 use lib.Ieee.Scale.{finite}
-use Rattle.float.specs.Rounded.{bits}
 use Rattle.float.specs.Rust.{minimum, signBit}
 use Rattle.float.specs.declared.FloatAnswer.{FloatAnswer}
 use Rattle.duration.specs.Seconds.{seconds}
@@ -89,23 +88,25 @@ unfolding each
 each-true test None f = refl
 each-true test (Some r) f = f r refl
 
-hasBytes : History → Bool
-hasBytes h = ltb 0 (allTotals (pairs true h))
+-- the window has bytes, or packets
+counts : Bool → History → Bool
+counts useBytes h = ltb 0 (allTotals (pairs useBytes h))
 
 -- 6 in 100 of them are lost at least
-loses : History → Bool
-loses h = leb (6 * weighedTotal true h) (100 * weighedLost true h)
+loses : Bool → History → Bool
+loses useBytes h = leb (6 * weighedTotal useBytes h) (100 * weighedLost useBytes h)
 
-meets : LossController → History → Bool
-meets c h =
+meets : Bool → LossController → History → Bool
+meets useBytes c h =
     let rate = lossBasedResult c .«bandwidth_estimate» in
     eqb (numObservations c) (h .count)
-    && ((not (hasBytes h) || near (averageReportedLossRatio c) (weighedLost true h) (weighedTotal true h))
-    && (each plain rate && (not (hasBytes h) || (not (loses h) || each (under (weighedLost true h) (weighedTotal true h)) rate))))
+    && ((not (counts useBytes h) || near (averageReportedLossRatio c) (weighedLost useBytes h) (weighedTotal useBytes h))
+    && (each plain rate
+    && (not (counts useBytes h) || (not (loses useBytes h) || each (under (weighedLost useBytes h) (weighedTotal useBytes h)) rate))))
 
-meets-true : (c : LossController) (h : History) → Demand c h → meets c h ≡ true
-unfolding meets hasBytes loses
-meets-true c h d =
+meets-true : (useBytes : Bool) (c : LossController) (h : History) → Demand useBytes c h → meets useBytes c h ≡ true
+unfolding meets counts loses
+meets-true useBytes c h d =
     let rate = lossBasedResult c .«bandwidth_estimate» in
     holds (eq-eqb _ _ (d .counted))
     (holds (implied _ (λ some. near-true _ _ _ (d .near (ltb-true 0 _ some))))
@@ -124,15 +125,17 @@ unfolding allTold
 told-more c [] call = refl
 told-more c (first ∷ calls) call = ap (λ (ts : List Told). toldOf c first ∷ ts) (told-more (next c first) calls call)
 
-judged-true : Refusals2 → (before calls : List Call) → judged (left before) (after (told before)) calls ≡ true
+judged-true : Refusals2 → (useBytes : Bool) (before calls : List Call) → judged (left useBytes before) (after (told useBytes before)) calls ≡ true
 unfolding judged
-judged-true r before [] = refl
-judged-true r before (call ∷ calls) =
+judged-true r useBytes before [] = refl
+judged-true r useBytes before (call ∷ calls) =
+    let start = initial useBytes in
     let more = before ++ (call ∷ []) in
-    let leaves : left more ≡ next (left before) call = foldl-append next initial before (call ∷ []) in
-    let hears : after (told more) ≡ fed (after (told before)) (toldOf (left before) call) =
-    ap (λ (ts : List Told). after ts) (told-more initial before call) ∙ foldl-append fed fresh (told before) (toldOf (left before) call ∷ []) in
-    holds (eq-eqb _ _ (r before .each call)) (rw (leaves, hears) at (judged-true r more calls))
+    let leaves : left useBytes more ≡ next (left useBytes before) call = foldl-append next start before (call ∷ []) in
+    let hears : after (told useBytes more) ≡ fed (after (told useBytes before)) (toldOf (left useBytes before) call) =
+    ap (λ (ts : List Told). after ts) (told-more start before call)
+    ∙ foldl-append fed fresh (told useBytes before) (toldOf (left useBytes before) call ∷ []) in
+    holds (eq-eqb _ _ (r useBytes before .each call)) (rw (leaves, hears) at (judged-true r useBytes more calls))
 
 -- ---- `Unrefused`
 
@@ -208,12 +211,13 @@ never : LossController → List Call → Bool
 never c [] = true
 never c (call ∷ calls) = not (eqb (step c call .refusal) outsideDomain) && never (next c call) calls
 
-never-true : Never6 → (before calls : List Call) → never (left before) calls ≡ true
+never-true : Never6 → (useBytes : Bool) (before calls : List Call) → never (left useBytes before) calls ≡ true
 unfolding never
-never-true n before [] = refl
-never-true n before (call ∷ calls) =
-    let leaves : left (before ++ (call ∷ [])) ≡ next (left before) call = foldl-append next initial before (call ∷ []) in
-    holds (ap not (ne-eqb _ outsideDomain (n before call))) (rw leaves at (never-true n (before ++ (call ∷ [])) calls))
+never-true n useBytes before [] = refl
+never-true n useBytes before (call ∷ calls) =
+    let more = before ++ (call ∷ []) in
+    let leaves : left useBytes more ≡ next (left useBytes before) call = foldl-append next (initial useBytes) before (call ∷ []) in
+    holds (ap not (ne-eqb _ outsideDomain (n useBytes before call))) (rw leaves at (never-true n useBytes more calls))
 
 -- ---- `StaysFinite` and `AtMost`
 
@@ -221,13 +225,13 @@ stays : LossController → List Call → Bool
 stays c later =
     not (finite (estimateOf c)) || (not (all isReport later || all handsFinite later) || finite (estimateOf (leftOf c later)))
 
-stays-true : StaysFinite → (calls later : List Call) → stays (left calls) later ≡ true
+stays-true : StaysFinite → (useBytes : Bool) (calls later : List Call) → stays (left useBytes calls) later ≡ true
 unfolding stays
-stays-true s calls later =
-    implied (finite (estimateOf (left calls)))
+stays-true s useBytes calls later =
+    let k = s useBytes calls in
+    implied (finite (estimateOf (left useBytes calls)))
     (λ f. implied (all isReport later || all handsFinite later)
-    (λ e. is-true _ (one-of (all isReport later) (all handsFinite later) e (λ t. s calls .reports later t (told-true f))
-    (λ t. s calls .calls later t (told-true f)))))
+    (λ e. is-true _ (one-of (all isReport later) (all handsFinite later) e (λ t. k .reports later t (told-true f)) (λ t. k .calls later t (told-true f)))))
   where
     told-true : {b : Bool} → b ≡ true → T b
     told-true e = rw e tt
@@ -236,15 +240,8 @@ stays-true s calls later =
     one-of true b e f g = f tt
     one-of false b e f g = g (told-true e)
 
-upToMost : Float → Bool
+unfoldable pub upToMost : Float → Bool
 upToMost x = plain x && leb (num x) (mostBits * den x)
-
--- 0.0 and 10^15; the next float, -1.0, infinity and NaN
-up-to-most-examples :
-    map (λ n. upToMost (bits n)) (0 ∷ 0x430C6BF526340000 ∷ 0x430C6BF526340001 ∷ 0xBFF0000000000000 ∷ 0x7FF0000000000000 ∷ 0x7FF8000000000000 ∷ []) ≡
-    true ∷ true ∷ false ∷ false ∷ false ∷ false ∷ []
-unfolding upToMost ofBits
-up-to-most-examples = refl
 
 up-to-most-true : (x : Float) → UpToMost x → upToMost x ≡ true
 unfolding upToMost
@@ -259,16 +256,23 @@ limited-true c l =
     holds (implied (finite (estimateOf c)) (λ f. up-to-most-true _ (l .estimate (rw f tt))))
     (each-true upToMost _ (λ r e. up-to-most-true _ (l .published r e)))
 
--- ---- on a list, with every definition that it computes by
+-- ---- on a list, under both profiles, with every definition that it computes by
 
--- `Demand3` and `Refusals2`, and what of the list they speak of
+both : (Bool → Bool) → Bool
+both test = test true && test false
+
+both-true : (test : Bool → Bool) → ((useBytes : Bool) → test useBytes ≡ true) → both test ≡ true
+unfolding both
+both-true test t = holds (t true) (t false)
+
+-- `Demand3` and `Refusals2`, and what of the list they speak of: the count, and whether the window is lossy by bytes and by packets
 pub record Outcome : Type 0 where
   pub met : Bool
   pub count : ℕ
-  pub lossy : Bool
+  pub lossy : List Bool
 
 unfoldable pub outcome : List Call → Outcome
-unfolding meets near under each hasBytes loses judged refusalOf reportRefusal packetsRefusal step toldOf allTold
+unfolding both meets near under each counts loses judged refusalOf reportRefusal packetsRefusal step toldOf allTold
     fed heard switched withReport completed withRunning bytesOf lostBytesOf lostPacketsOf latest aged exactSum allTotals
     Setters.rateRefusal Setters.startRefusal Setters.timeRefusal Setters.setBandwidthEstimate Setters.withAlrStartTime Setters.resetObservations
     Setters.setAlrStartTime Report.hasValidEstimate Report.observed Report.withDelayBasedEstimate Report.reported Report.updateBandwidthEstimate
@@ -278,36 +282,44 @@ unfolding meets near under each hasBytes loses judged refusalOf reportRefusal pa
     Window.cleared Window.reference Window.completes Window.full Window.observed Window.stored Window.withCeiling Window.withPartial Window.renewed
     Window.completed Window.added atMost minimum signBit Rate.over Rate.smaller Delta.difference Delta.inSeconds Delta.order Delta.rate Time.since
     ordered seconds weight lossRatio add div eq inFloat isNan lt mul ofBits ofInt sub toBits
-outcome calls = let h = after (told calls) in
-    record { met = meets (left calls) h && judged initial fresh calls; count = h .count; lossy = hasBytes h && loses h }
+outcome calls =
+    record {
+      met = both (λ useBytes. meets useBytes (left useBytes calls) (after (told useBytes calls)) && judged (initial useBytes) fresh calls);
+      count = after (told true calls) .count;
+      lossy = map (λ useBytes. let h = after (told useBytes calls) in counts useBytes h && loses useBytes h) (true ∷ false ∷ []);
+    }
 
 pub outcome-met : Demand3 → Refusals2 → (calls : List Call) → outcome calls .met ≡ true
 unfolding outcome
-outcome-met d r calls = holds (meets-true (left calls) (after (told calls)) (d calls)) (judged-true r [] calls)
+outcome-met d r calls =
+    both-true _
+    (λ useBytes. holds (meets-true useBytes (left useBytes calls) (after (told useBytes calls)) (d useBytes calls)) (judged-true r useBytes [] calls))
 
 -- `Unrefused1`
 unfoldable pub untraced : List Call → Bool
 unfolding outcome traceless handsBack same noneRefused reading answersOf withoutRefusals withoutRefused
-untraced calls = traceless initial calls
+untraced calls = both (λ useBytes. traceless (initial useBytes) calls)
 
 pub untraced-met : Unrefused1 → (calls : List Call) → untraced calls ≡ true
 unfolding untraced
-untraced-met u calls = traceless-true u initial calls
+untraced-met u calls = both-true _ (λ useBytes. traceless-true u (initial useBytes) calls)
 
 -- `RatioAtMostOne` and `Never6`
 unfoldable pub unreached : List Call → Bool
 unfolding outcome bounded never
-unreached calls = bounded (averageReportedLossRatio (left calls)) && never initial calls
+unreached calls = both (λ useBytes. bounded (averageReportedLossRatio (left useBytes calls)) && never (initial useBytes) calls)
 
 pub unreached-met : RatioAtMostOne → Never6 → (calls : List Call) → unreached calls ≡ true
 unfolding unreached
-unreached-met r n calls = holds (bounded-true (averageReportedLossRatio (left calls)) (r calls)) (never-true n [] calls)
+unreached-met r n calls =
+    both-true _ (λ useBytes. holds (bounded-true (averageReportedLossRatio (left useBytes calls)) (r useBytes calls)) (never-true n useBytes [] calls))
 
 -- `StaysFinite`, with the calls after which the estimate is asked again, and `AtMost`, after all of them
 unfoldable pub unescaped : List Call → List Call → Bool
 unfolding outcome stays limited upToMost all
-unescaped calls later = stays (left calls) later && limited (left (calls ++ later))
+unescaped calls later = both (λ useBytes. stays (left useBytes calls) later && limited (left useBytes (calls ++ later)))
 
 pub unescaped-met : StaysFinite → AtMost → (calls later : List Call) → unescaped calls later ≡ true
 unfolding unescaped
-unescaped-met s m calls later = holds (stays-true s calls later) (limited-true (left (calls ++ later)) (m (calls ++ later)))
+unescaped-met s m calls later =
+    both-true _ (λ useBytes. holds (stays-true s useBytes calls later) (limited-true (left useBytes (calls ++ later)) (m useBytes (calls ++ later))))

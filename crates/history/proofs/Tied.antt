@@ -52,20 +52,22 @@ pub record Tied (o : Observations) (h : History) : Type 0 where
 
 -- ---- a start or a reset
 
-no-ceiling : (n : ℕ) → Ratio.cached (Window.cleared n .«cached_instant_upper_bound») ≡ Ratio.validOrMax (Ratio.instantUpperBound (Window.cleared n) .rate)
+no-ceiling : (useBytes : Bool) (n : ℕ)
+    → let o = Window.cleared useBytes n in Ratio.cached (o .«cached_instant_upper_bound») ≡ Ratio.validOrMax (Ratio.instantUpperBound o .rate)
 unfolding Window.cleared Ratio.cached Ratio.validOrMax Ratio.instantUpperBound Ratio.averageReportedLossRatio Ratio.readable Ratio.window
     Ratio.instantLimit lossRatio eq lt ofBits
-no-ceiling n = refl
+no-ceiling useBytes n = refl
 
 -- cleared observations are tied to a history without observations, of the same count
-pub reset-tied : (n : ℕ) (on : Bool) → Tied (Window.cleared n) (record { observations = []; running = nothing; time = none; on = on; count = n })
+pub reset-tied : (useBytes : Bool) (n : ℕ) (on : Bool)
+    → Tied (Window.cleared useBytes n) (record { observations = []; running = nothing; time = none; on = on; count = n })
 unfolding Window.cleared held
-reset-tied n on =
-    record { count = refl; slots = sym (slots-empty n); ceiling = no-ceiling n; running = refl; time = refl; kept = emptied-kept on n }
+reset-tied useBytes n on =
+    record { count = refl; slots = sym (slots-empty n); ceiling = no-ceiling useBytes n; running = refl; time = refl; kept = emptied-kept on n }
 
 -- at the start, a fresh history
-pub fresh-tied : Tied (Window.cleared 0) fresh
-fresh-tied = reset-tied 0 false
+pub fresh-tied : (useBytes : Bool) → Tied (Window.cleared useBytes 0) fresh
+fresh-tied useBytes = reset-tied useBytes 0 false
 
 -- ---- the running sums
 

@@ -28,8 +28,8 @@ use Rattle.history.proofs.Step.{reached}
 
 pub every-ratio-at-most-one : RatioAtMostOne
 unfolding averageReportedLossRatio
-every-ratio-at-most-one calls =
-    let t = reached calls .tied in
+every-ratio-at-most-one useBytes calls =
+    let t = reached useBytes calls .tied in
     rw (tied-reported _ _ t) (record { taken = refl; atMostOne = tied-at-most-one _ _ t })
 
 -- ---- of document 01's numbers for a call, none is 6
@@ -89,4 +89,4 @@ call-not-six h (report times sizes flags delay) =
 call-not-six h read = literal 0 refl
 
 pub never-6 : Never6
-never-6 calls call six = call-not-six _ call (sym (refusals calls .each call) ∙ six)
+never-6 useBytes calls call six = call-not-six _ call (sym (refusals useBytes calls .each call) ∙ six)

@@ -2,7 +2,7 @@
 use Prim.Native.Nat.{ℕ, _+_, _-_, _*_, _≤_, _<_}
 use mathlib.Core.Path.{_≡_, refl, _∙_}
 use mathlib.Core.Logic.{inl, inr}
-use mathlib.Core.Bool.{true}
+use mathlib.Core.Bool.{Bool, true}
 use mathlib.Core.List.{List, [], _∷_, List·Permᴰ}
 use native.Mathlib.Nat.{eq-zero-or-pos, mul-pos, one-le-pow}
 use native.Mathlib.Omega.{arith}
@@ -48,22 +48,25 @@ plain-finite (inf s) h = absurd h
 plain-finite (fin s m e) h = refl
 
 module _ (o : Observations) (h : History) (t : Tied o h) where
+  abbrev useBytes : Bool
+  useBytes = o .«use_byte_loss_ratio»
+
   -- the window that the ratio reads
   abbrev read : List Measured
-  read = Ratio.window (o .«num_observations») (o .observations)
+  read = Ratio.window useBytes (o .«num_observations») (o .observations)
 
-  any-order : List·Permᴰ read (window true h)
-  any-order = rw (t .count) (slots-window (h .count) (h .observations) (o .observations) (t .slots) (t .kept .counted) (t .kept .few))
+  any-order : List·Permᴰ read (window useBytes h)
+  any-order = rw (t .count) (slots-window useBytes (h .count) (h .observations) (o .observations) (t .slots) (t .kept .counted) (t .kept .few))
 
-  sound : Each Sound (window true h)
-  sound = window-sound true h (t .kept)
+  sound : Each Sound (window useBytes h)
+  sound = window-sound useBytes h (t .kept)
 
-  short : length (window true h) ≤ 15
-  short = window-short true h (t .kept)
+  short : length (window useBytes h) ≤ 15
+  short = window-short useBytes h (t .kept)
 
-  -- every size goes to a float
-  pub tied-readable : Ratio.readable (o .observations) ≡ true
-  tied-readable = sound-readable (o .«num_observations») (o .observations) (each-perm any-order sound)
+  -- it can be read
+  pub tied-readable : Ratio.readable useBytes (o .observations) ≡ true
+  tied-readable = sound-readable useBytes (o .«num_observations») (o .observations) (each-perm any-order sound)
 
   -- so the ratio is not refused
   pub tied-reported : Ratio.averageReportedLossRatio o ≡ answered (lossRatio read)
@@ -79,21 +82,22 @@ module _ (o : Observations) (h : History) (t : Tied o h) where
   pub tied-at-most-one : AtMostOne (lossRatio read)
   tied-at-most-one = ratio-at-most-one read (each-perm any-order sound) (rw (length-perm any-order) short)
 
-  module _ (some : 0 < allTotals (pairs true h)) where
+  module _ (some : 0 < allTotals (pairs useBytes h)) where
     -- an observation is complete
     pub tied-counted : 0 < o .«num_observations»
-    tied-counted = omega (arith, some-pair (pairs true h) some, length-map (h .observations) (pairOf true), t .count, t .kept .counted)
+    tied-counted = omega (arith, some-pair (pairs useBytes h) some, length-map (h .observations) (pairOf useBytes), t .count, t .kept .counted)
 
     -- the ratio is within r/2^46 of the history's r
-    pub tied-ratio : (Ratio.averageReportedLossRatio o .refusal ≡ 0) × Close (Ratio.averageReportedLossRatio o .value) (weighedLost true h) (weighedTotal true h)
-    tied-ratio = rw tied-reported (refl, close-any-order read (window true h) any-order sound short (aged-some 0 (pairs true h) some))
+    pub tied-ratio : (Ratio.averageReportedLossRatio o .refusal ≡ 0)
+        × Close (Ratio.averageReportedLossRatio o .value) (weighedLost useBytes h) (weighedTotal useBytes h)
+    tied-ratio = rw tied-reported (refl, close-any-order read (window useBytes h) any-order sound short (aged-some 0 (pairs useBytes h) some))
 
     -- where r is at least 0.06, the ceiling is that of the ratio, within one part in 2^40 of the history's
-    pub tied-ceiling : 6 * weighedTotal true h ≤ 100 * weighedLost true h
+    pub tied-ceiling : 6 * weighedTotal useBytes h ≤ 100 * weighedLost useBytes h
         → (Ratio.cached (o .«cached_instant_upper_bound») ≡ Rate.rate (lossCeiling (Ratio.averageReportedLossRatio o .value)))
-        × Capped (lossCeiling (Ratio.averageReportedLossRatio o .value)) (weighedLost true h) (weighedTotal true h)
+        × Capped (lossCeiling (Ratio.averageReportedLossRatio o .value)) (weighedLost useBytes h) (weighedTotal useBytes h)
     unfolding Ratio.instantUpperBound Ratio.instantLimit Ratio.validOrMax
     tied-ceiling six =
-        let sets = ceiling-any-order read (window true h) any-order sound short (aged-some 0 (pairs true h) some) six in
+        let sets = ceiling-any-order read (window useBytes h) any-order sound short (aged-some 0 (pairs useBytes h) some) six in
         rw tied-reported
         (t .ceiling ∙ rw (tied-reported, sets .taken, plain-finite (lossCeiling (lossRatio read)) (sets .capped .plainly)), sets .capped)

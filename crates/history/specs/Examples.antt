@@ -150,6 +150,14 @@ unfolding fed heard withReport completed withRunning bytesOf lostBytesOf lostPac
     packets packetRefusal rateRefusal signBit lt ofBits toBits
 next-frame = (refl, refl, refl)
 
+-- 10^9 - 1 running packets, of no bytes: one more is taken, and two get 10, whatever the profile (Q-7)
+last-packet :
+    map (refusalOf (record { observations = []; running = sums 0 0 999999999 9; time = none; on = false; count = 0 }))
+    (report (0 ∷ []) (0 ∷ []) (0 ∷ []) 0 ∷ report (0 ∷ 0 ∷ []) (0 ∷ 0 ∷ []) (0 ∷ 0 ∷ []) 0 ∷ []) ≡
+    0 ∷ 10 ∷ []
+unfolding bytesOf latest refusalOf reportRefusal packetsRefusal columnsRefusal packets packetRefusal rateRefusal signBit lt ofBits toBits
+last-packet = refl
+
 -- ---- the number of a refused logarithm
 
 zero-argument : logarithm (bits 0) .refusal ≡ outsideDomain

@@ -54,7 +54,7 @@ pub record KeepsFinite (c : LossController) : Type 0 where
   pub calls : (later : List Call) → T (all handsFinite later) → KeptFinite c later
 
 abbrev pub StaysFinite : Type 0
-StaysFinite = (calls : List Call) → KeepsFinite (left calls)
+StaysFinite = (useBytes : Bool) (calls : List Call) → KeepsFinite (left useBytes calls)
 
 -- ---- at most 10^15
 
@@ -72,4 +72,4 @@ pub record Limited (c : LossController) : Type 0 where
   pub published : (published : Bitrate) → lossBasedResult c .«bandwidth_estimate» ≡ Some published → UpToMost (published .bps)
 
 abbrev pub AtMost : Type 0
-AtMost = (calls : List Call) → Limited (left calls)
+AtMost = (useBytes : Bool) (calls : List Call) → Limited (left useBytes calls)

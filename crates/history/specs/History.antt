@@ -15,7 +15,7 @@ pub record Sums : Type 0 where
   pub packets : ℕ
   pub lostPackets : ℕ
 
--- "observations newest first, a running one, a time, ALR on or off, a count"
+-- "observations newest first, [..] a running one, a time, ALR on or off, a count"
 pub record History : Type 0 where
   pub observations : List Sums
   pub running : Sums

@@ -23,7 +23,7 @@ unfoldable pub packetsRefusal : List PacketResult → ℕ
 packetsRefusal [] = 0
 packetsRefusal (p ∷ ps) = firstRefusal (packetRefusal p) (packetsRefusal ps)
 
--- "10: running bytes would pass 10^12, or packets 10^9."
+-- "10: running bytes would pass 10^12, or packets 10^9, in both profiles"
 abbrev pub passes : History → ℕ → ℕ → Bool
 passes h packets bytes = ltb (10 ^ 9) (h .running .packets + packets) || ltb (10 ^ 12) (h .running .bytes + bytes)
 
@@ -59,6 +59,6 @@ pub record Refusals (c : LossController) (h : History) : Type 0 where
   pub each : (call : Call) → step c call .refusal ≡ refusalOf h call
   pub ratio : averageReportedLossRatio c .refusal ≡ 0
 
--- demand 2's "a call is refused only where document 01 says", after every list of calls
+-- demand 2's "a call is refused only where document 01 says", after every list of calls; the numbers are the same under both profiles (Q-7)
 abbrev pub Refusals2 : Type 0
-Refusals2 = (calls : List Call) → Refusals (left calls) (after (told calls))
+Refusals2 = (useBytes : Bool) (calls : List Call) → Refusals (left useBytes calls) (after (told useBytes calls))

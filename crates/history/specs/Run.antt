@@ -1,6 +1,6 @@
 -- A list of calls on the controller, each on what the last one left. Definitions only.
 use Prim.Native.Nat.{ℕ}
-use mathlib.Core.Bool.{not}
+use mathlib.Core.Bool.{Bool, not}
 use mathlib.Core.List.{List, [], _∷_, foldl}
 use mathlib.Core.Option.{Option, none, some}
 use lib.Dec.{eqb}
@@ -51,9 +51,9 @@ unfoldable pub allTold : LossController → List Call → List Told
 allTold c [] = []
 allTold c (call ∷ calls) = toldOf c call ∷ allTold (next c call) calls
 
--- from a fresh controller
-abbrev pub left : List Call → LossController
-left calls = leftOf initial calls
+-- from a fresh controller of a profile: true for bytes, false for packets (Q-7)
+abbrev pub left : Bool → List Call → LossController
+left useBytes calls = leftOf (initial useBytes) calls
 
-abbrev pub told : List Call → List Told
-told calls = allTold initial calls
+abbrev pub told : Bool → List Call → List Told
+told useBytes calls = allTold (initial useBytes) calls

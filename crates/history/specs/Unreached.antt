@@ -1,6 +1,7 @@
 -- What no list of calls comes to: a loss ratio above 1, and a logarithm without an argument (request Q-6). Definitions only.
 use Prim.Native.Nat.{ℕ}
 use mathlib.Core.Path.{_≡_}
+use mathlib.Core.Bool.{Bool}
 use mathlib.Core.List.{List}
 use Rattle.float.specs.declared.FloatAnswer.{FloatAnswer}
 use Rattle.rounding.specs.Exact.{AtMostOne}
@@ -15,7 +16,7 @@ pub record BoundedRatio (ratio : FloatAnswer) : Type 0 where
 
 -- "over calls from a fresh controller the ratio never passes 1"
 abbrev pub RatioAtMostOne : Type 0
-RatioAtMostOne = (calls : List Call) → BoundedRatio (averageReportedLossRatio (left calls))
+RatioAtMostOne = (useBytes : Bool) (calls : List Call) → BoundedRatio (averageReportedLossRatio (left useBytes calls))
 
 -- "6: a logarithm argument outside the domain above."
 abbrev pub outsideDomain : ℕ
@@ -23,4 +24,4 @@ outsideDomain = 6
 
 -- "The logarithm's code 6 stays at the public logarithm, and over those calls the controller is shown never to meet it": whatever call comes next
 abbrev pub Never6 : Type 0
-Never6 = (calls : List Call) (call : Call) → step (left calls) call .refusal ≡ outsideDomain → ⊥
+Never6 = (useBytes : Bool) (calls : List Call) (call : Call) → step (left useBytes calls) call .refusal ≡ outsideDomain → ⊥

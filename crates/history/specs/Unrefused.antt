@@ -44,7 +44,7 @@ pub record Unrefused (c : LossController) (calls : List Call) : Type 0 where
   pub none : NoneRefused (answersOf c (withoutRefused c calls))
   pub leaves : leftOf c calls ≡ leftOf c (withoutRefused c calls)
 
--- from any controller, so from a fresh one and from what any list left
+-- from any controller, so from a fresh one of either profile and from what any list left
 pub record UnrefusedFrom (c : LossController) : Type 0 where
   pub each : (call : Call) → HandsBack c call
   pub whole : (calls : List Call) → Unrefused c calls
