@@ -97,6 +97,7 @@ changes a b =
     let i = a .inputs in
     let j = b .inputs in
     record {
+      profile = not (Bool·beq (o .«use_byte_loss_ratio») (p .«use_byte_loss_ratio»));
       sums = not (sums (o .«partial_observation») (p .«partial_observation»));
       time = not (time (o .«last_send_time_most_recent_observation») (p .«last_send_time_most_recent_observation»));
       count = not (eqb (o .«num_observations») (p .«num_observations»));
@@ -113,6 +114,7 @@ changes a b =
 abbrev pub isNone : Changes → Bool
 isNone c =
     not
-    ((c .sums || c .time || c .count || c .window || c .ceiling)
+    (c .profile
+    || (c .sums || c .time || c .count || c .window || c .ceiling)
     || c .estimator
     || (c .acknowledged || c .delay || c .alr || c .capacity))

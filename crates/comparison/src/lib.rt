@@ -14,6 +14,7 @@ use observation::Observation;
 use observation::PartialObservation;
 
 pub struct Changes {
+    pub profile: bool,
     pub sums: bool,
     pub time: bool,
     pub count: bool,
@@ -33,7 +34,7 @@ impl Changes {
     {
         let observed = self.sums | self.time | self.count | self.window | self.ceiling;
         let told = self.acknowledged | self.delay | self.alr | self.capacity;
-        !(observed | self.estimator | told)
+        !(self.profile | observed | self.estimator | told)
     }
 }
 
@@ -55,6 +56,7 @@ pub fn compared(a: LossController, b: LossController) -> Changes
     let capacity = told.link_capacity_estimate;
     let other_capacity = retold.link_capacity_estimate;
     Changes {
+        profile: one.use_byte_loss_ratio != other.use_byte_loss_ratio,
         sums: !same_sums(one.partial_observation, other.partial_observation),
         time: !time.eq(other_time),
         count: one.num_observations != other.num_observations,

@@ -52,7 +52,7 @@ pub(crate) fn rates(tally: Tally, call: Call) -> Tally {
 // ---- the setters that take an option
 
 pub(crate) fn options(tally: Tally) -> Tally {
-    let on = start();
+    let on = start(tally.use_byte_loss_ratio);
     let off = without_options(on);
     let mut t = tally;
     t = t.alr(on, LATEST, 0);
@@ -73,7 +73,7 @@ impl Tally {
         let rate = float::from_bits(bits);
         print_call(call);
         print_bits(rate);
-        let start = start();
+        let start = start(self.use_byte_loss_ratio);
         self.judged(
             b"",
             start,

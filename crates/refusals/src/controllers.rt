@@ -1,4 +1,5 @@
-// Controllers of which no part is as in a new one, so that a part that is not handed back shows.
+// Controllers of either profile of which no other part is as in a new one, so that a part that is
+// not handed back shows.
 use crate::values::BYTES;
 use crate::values::COUNT;
 use crate::values::PACKETS;
@@ -19,12 +20,18 @@ use observation::Observations;
 use observation::PartialObservation;
 use time::Timestamp;
 
-pub(crate) fn start() -> LossController {
-    controller(COUNT, PACKETS, BYTES)
+pub(crate) fn start(use_byte_loss_ratio: bool) -> LossController {
+    controller(use_byte_loss_ratio, COUNT, PACKETS, BYTES)
 }
 
-pub(crate) fn controller(num_observations: u64, num_packets: u64, size: u64) -> LossController {
+pub(crate) fn controller(
+    use_byte_loss_ratio: bool,
+    num_observations: u64,
+    num_packets: u64,
+    size: u64,
+) -> LossController {
     let observations = Observations {
+        use_byte_loss_ratio,
         partial_observation: PartialObservation {
             num_packets,
             num_lost_packets: 1,
@@ -122,6 +129,7 @@ pub(crate) fn without_reference(mut controller: LossController) -> LossControlle
     let observations = before.observations;
     let cached_instant_upper_bound = before.cached_instant_upper_bound;
     let timeless = Observations {
+        use_byte_loss_ratio: before.use_byte_loss_ratio,
         partial_observation,
         last_send_time_most_recent_observation: Timestamp::DistantFuture,
         num_observations: before.num_observations,

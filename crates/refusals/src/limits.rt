@@ -161,7 +161,7 @@ pub(crate) fn count_limit(tally: Tally) -> Tally {
 
 // What completes an observation, and so gets 11, and what does not
 pub(crate) fn times_at_full_count(tally: Tally) -> Tally {
-    let full = controller(MOST_COUNT, PACKETS, BYTES);
+    let full = controller(tally.use_byte_loss_ratio, MOST_COUNT, PACKETS, BYTES);
     let mut report = packets(3);
     let mut t = tally;
     // 250 ms

@@ -3,7 +3,7 @@
 // code that it got, the code that document 01 gives it, and whether the controller is the same
 // after it or which of its parts changed; after a call that is taken, what the controller holds.
 // The last line counts the cases, and those that got another code or did not hand the controller
-// back.
+// back. All of it comes twice, by bytes and by packets.
 mod calls;
 mod controllers;
 mod limits;
@@ -29,15 +29,26 @@ use crate::order::alone;
 use crate::order::chain;
 use crate::order::packet_by_packet;
 use crate::order::pairs;
+use crate::print::text;
 use crate::summaries::no_report;
 use crate::summaries::summaries;
 use crate::verdict::Tally;
 
 fn main() {
-    let mut tally = Tally {
+    text(b"by bytes\n");
+    let mut tally = all_cases(Tally {
+        use_byte_loss_ratio: true,
         cases: 0,
         mismatches: 0,
-    };
+    });
+    text(b"by packets\n");
+    tally.use_byte_loss_ratio = false;
+    tally = all_cases(tally);
+    tally.print();
+}
+
+fn all_cases(before: Tally) -> Tally {
+    let mut tally = before;
     tally = alone(tally);
     tally = pairs(tally);
     tally = chain(tally);
@@ -59,5 +70,5 @@ fn main() {
     tally = options(tally);
     tally = summaries(tally);
     tally = no_report(tally);
-    tally.print();
+    tally
 }

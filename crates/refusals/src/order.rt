@@ -139,7 +139,7 @@ impl Tally {
         let both = with_code(report, first);
         let size = value_for(10, first, second, MOST_BYTES, BYTES);
         let count = value_for(11, first, second, MOST_COUNT, COUNT);
-        let start = controller(count, PACKETS, size);
+        let start = controller(self.use_byte_loss_ratio, count, PACKETS, size);
         self.judged(b"", start, send(both, start), expected)
     }
 }

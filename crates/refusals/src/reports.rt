@@ -182,7 +182,7 @@ pub(crate) fn print_delay(delay: f64) {
 impl Tally {
     pub(crate) fn report(self, report: Report, expected: u8) -> Tally {
         print_report(report);
-        let start = start();
+        let start = start(self.use_byte_loss_ratio);
         self.judged(b"", start, send(report, start), expected)
     }
 
@@ -197,7 +197,7 @@ impl Tally {
     ) -> Tally {
         print_state(count, num_packets, size);
         print_report(report);
-        let start = controller(count, num_packets, size);
+        let start = controller(self.use_byte_loss_ratio, count, num_packets, size);
         self.judged(b"", start, send(report, start), expected)
     }
 }

@@ -78,7 +78,7 @@ impl Tally {
         print_state(count, PACKETS, size);
         field(b"summary at ", time);
         print_delay(delay);
-        let start = controller(count, PACKETS, size);
+        let start = controller(self.use_byte_loss_ratio, count, PACKETS, size);
         let answer = start.update_with_summary(summary_at(time), Bitrate { bps: delay });
         self.judged(b"", start, answer, expected)
     }
@@ -102,7 +102,7 @@ impl Tally {
         field(b", ", summary.lost_size);
         field(b" at ", summary.last_send_time);
         print_delay(delay);
-        let start = controller(count, PACKETS, size);
+        let start = controller(self.use_byte_loss_ratio, count, PACKETS, size);
         let answer = start.update_with_summary(summary, Bitrate { bps: delay });
         self.judged(b"", start, answer, expected)
     }

@@ -7,7 +7,9 @@ use comparison::Changes;
 use loss_controller::ControllerAnswer;
 use loss_controller::LossController;
 
+// The cases so far, and the profile of the controllers that they are put to.
 pub(crate) struct Tally {
+    pub(crate) use_byte_loss_ratio: bool,
     pub(crate) cases: u64,
     pub(crate) mismatches: u64,
 }
@@ -37,7 +39,11 @@ impl Tally {
         if !is_expected || !is_handed_back {
             mismatches = std::num::wrapping_add_u64(mismatches, 1);
         }
-        Tally { cases, mismatches }
+        Tally {
+            use_byte_loss_ratio: self.use_byte_loss_ratio,
+            cases,
+            mismatches,
+        }
     }
 
     pub(crate) fn print(self) {
@@ -68,6 +74,7 @@ fn print_changes(changes: Changes) {
         return;
     }
     text(b", changed:");
+    print_part(changes.profile, b" profile");
     print_part(changes.sums, b" sums");
     print_part(changes.time, b" time");
     print_part(changes.count, b" count");

@@ -1,5 +1,6 @@
-// The thin forms of the report beside the call by value, on one controller, report after report. A
-// line has the call's refusal, and whether each form answered the same and left the same behind.
+// The thin forms of the report beside the call by value, on one controller of each profile, report
+// after report. A line has the call's refusal, and whether each form answered the same and left the
+// same behind.
 ghost use mathlib.Core.Path.{_≡_};
 ghost use Rattle.loss_controller.specs.Report.{updateBandwidthEstimate};
 ghost use Rattle.lent.specs.Records.{updateRecords};
@@ -11,7 +12,13 @@ use packets::PacketResult;
 use packets::PacketSize;
 
 fn main() {
-    let new = LossController::new();
+    io::write_all(STDOUT_FILENO, b"by bytes\n");
+    forms(LossController::new());
+    io::write_all(STDOUT_FILENO, b"by packets\n");
+    forms(LossController::with_profile(false));
+}
+
+fn forms(new: LossController) {
     let set = new.set_bandwidth_estimate(Bitrate { bps: 1.0e6 });
     let mut controller = set.controller;
     controller = sent_at(controller, 0);
