@@ -29,5 +29,6 @@ for command in answer make rewrite; do
     says 2 'there is no file no-such-list' "$command" no-such-list
     says 2 'docs is a directory' "$command" docs
 done
+says 0 'start packets' make --help
 says 2 '--version takes no argument' --version answer
 echo "./falghenti: usage and refusals as documented"

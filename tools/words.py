@@ -32,6 +32,7 @@ REASONS = {
     "time": "wrong time",
     "size": "wrong size: whole bytes, at most 9999999",
     "lost": "neither lost nor arrived",
+    "measure": "neither bytes nor packets",
 }
 MESSAGE = re.compile(rb"make_list: line ([1-9][0-9]*): (.*)", re.DOTALL)
 
@@ -50,6 +51,7 @@ DECIMAL = re.compile(rb"(0|[1-9][0-9]*)(?:\.([0-9]{1,9}))?")
 
 # The words of each call behind its name.
 COUNTS = {b"estimate": 1, b"acknowledged": 1, b"alr": 1, b"capacity": 1, b"packet": 3, b"report": 1, b"read": 0}
+COUNTS[b"start"] = 1
 
 
 # The model
@@ -91,6 +93,13 @@ def lost(word):
     return int(word == b"lost")
 
 
+def measure(word):
+    """What the ratio of a controller counts (Q-7)."""
+    if word not in (b"bytes", b"packets"):
+        raise Wrong("measure")
+    return int(word == b"packets")
+
+
 def call(line):
     """Kind, A, B and C of a line without its newline, or None where it says nothing."""
     # Also where the line is blank or a comment.
@@ -113,6 +122,8 @@ def call(line):
         return 5, a, b, c
     if name == b"read":
         return 7, 0, 0, 0
+    if name == b"start":
+        return 8, 0, measure(values[0]), 0
     return {b"estimate": 1, b"acknowledged": 2, b"report": 6}[name], rate(values[0]), 0, 0
 
 
@@ -169,6 +180,8 @@ STORED = [
     b"packet 0.25 1200 arrived",
     b"report 2600000",
     b"read",
+    b"start bytes",
+    b"start packets",
     b"",
     # Rates.
     b"estimate 0",
@@ -303,6 +316,17 @@ STORED = [
     b"packet 1 1200 lost.",
     b"packet 1 1200 1",
     b"packet 1 1200 arrive",
+    # Starts.
+    b"start Bytes",
+    b"start PACKETS",
+    b"start byte",
+    b"start packet",
+    b"start bytess",
+    b"start packets.",
+    b"start 0",
+    b"start 1",
+    b"start off",
+    b"start inf",
     # The first reason of two.
     b"packet x x x",
     b"packet 1 x x",
@@ -326,6 +350,9 @@ STORED = [
     b"packet 1 1200 lost arrived",
     b"report",
     b"report 1 1",
+    b"start",
+    b"start bytes packets",
+    b"start 2 now",
     b"read 0",
     b"read # now",
     b"estimate 5 # a comment is a line of its own",
@@ -334,6 +361,11 @@ STORED = [
     b"READ",
     b"rea",
     b"reads",
+    b"Start bytes",
+    b"star bytes",
+    b"starts packets",
+    b"startbytes",
+    b"bytes",
     b"estimate2500000",
     b"estimate=2500000",
     b"5",
@@ -366,6 +398,7 @@ STORED = [
     b"estimate\r2500000\r",
     b"packet\t1.25\r1200  lost\r",
     b"alr off\r",
+    b"start\tpackets\r",
     b"es timate 5",
     b"estimate 25 00000",
     # The length.
@@ -410,7 +443,9 @@ NEAR = sorted({near + off for near in [10**k for k in range(22)] + [2**k for k i
 NO_RATES = [b"Inf", b"INF", b"in", b"inff", b"infinity", b"+inf", b"-inf", b"nan", b"none", b"off", b"1e6", b"0x1"]
 NO_TIMES = [b".5", b"5.", b".", b"1..5", b"1.5.5", b"on", b"none", b"inf", b"Off", b"of", b"offf", b"1.5s", b"1e3"]
 NO_FLAGS = [b"Lost", b"los", b"lostt", b"LOST", b"arrive", b"arrivedd", b"Arrived", b"0", b"1", b"true", b"received"]
+NO_MEASURES = [b"Bytes", b"byte", b"bytess", b"BYTES", b"packet", b"packetss", b"Packets", b"0", b"1", b"off", b"lost"]
 NO_CALLS = [b"estimates", b"estimat", b"Estimate", b"packets", b"rea", b"READ", b"reads", b"alr1", b"capacit", b"ack"]
+NO_CALLS += [b"star", b"starts", b"Start"]
 NEAR_LATEST = [b"3999999999.999999999", b"4000000000", b"4000000000.0", b"4000000000.000000000", b"4000000000.1"]
 NEAR_LATEST += [b"4000000000.000000001", b"4000000001", b"18446744073.709551616", b"18446744074", b"18446744075.5"]
 
@@ -460,6 +495,8 @@ def some_words(source):
     if name == b"packet":
         flag = source.choice([b"lost", b"arrived"] * 12 + [source.choice(NO_FLAGS)])
         return [name, some_time(source), b"%d" % some_whole(source, LARGEST), flag]
+    if name == b"start":
+        return [name, source.choice([b"bytes", b"packets"] * 6 + [source.choice(NO_MEASURES)])]
     return [name] if name == b"read" else [name, some_rate(source)]
 
 
@@ -472,7 +509,7 @@ def damage_words(source, words):
     elif way == 1:
         words.insert(place, words[place])
     elif way == 2:
-        words.append(source.choice([b"#", b"0", b"lost", b"off", b"read", b"x"]))
+        words.append(source.choice([b"#", b"0", b"lost", b"off", b"read", b"bytes", b"x"]))
     elif way == 3:
         source.shuffle(words)
     elif way == 4:

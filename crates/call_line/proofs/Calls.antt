@@ -12,16 +12,16 @@ use Rattle.loss_controller.specs.Setters.{timeRefusal}
 use Rattle.call_line.specs.declared.Fields.{Fields}
 use Rattle.call_line.specs.declared.Fields.the-variants.{Read as Fields·Read, Unreadable}
 use Rattle.call_line.specs.declared.Call.{Call}
-use Rattle.call_line.specs.declared.Call.the-variants.{Estimate, Acknowledged, AlrOn, AlrOff, CapacityIs, CapacityNone, Packet, Report, Read}
+use Rattle.call_line.specs.declared.Call.the-variants.{Estimate, Acknowledged, AlrOn, AlrOff, CapacityIs, CapacityNone, Packet, Report, Read, StartBytes, StartPackets}
 use Rattle.call_line.specs.declared.Line.the-variants.{Taken, Refused, ReportRefused}
 use Rattle.call_line.specs.Column.{total, row}
 use Rattle.call_line.specs.Line.{fieldsIn, fieldsOf, inTable, rateCode, unlessRefused, byFlag, reportOf, alrOf, capacityOf, packetOf, callOf}
-use Rattle.call_line.specs.Line.{valuesOf, checked, lineOf}
+use Rattle.call_line.specs.Line.{zeros, startOf, valuesOf, checked, lineOf}
 use Rattle.call_line.specs.Write.{fields}
 use Rattle.call_line.proofs.Columns.{Shape}
 use Rattle.call_line.proofs.RoundTrip.{Fits, length-row, line-written, fields-fit, line-read}
 
-two-zeros : (b c : ℕ) → eqb b 0 && eqb c 0 ≡ true → (b ≡ 0) × (c ≡ 0)
+two-zeros : (b c : ℕ) → zeros b c ≡ true → (b ≡ 0) × (c ≡ 0)
 two-zeros b c e = let h = both (eqb b 0) (eqb c 0) e in (eqb-true b 0 (h .0), eqb-true c 0 (h .1))
 
 -- what is taken is the call
@@ -59,6 +59,17 @@ flag-is k a b c refusal off on found x y h e =
     pick false true p q h e = rw (eqb-true b 1 q, taken-is refusal on found e) y
     pick false false p q h e = let z : _≡_ {A = ℕ} 0 1 = cc in absurd (omega arith)
 
+start-is : (b : ℕ) (found : Call) → startOf b ≡ Taken found → valuesOf found ≡ 8 ∷ 0 ∷ b ∷ 0 ∷ []
+unfolding startOf byFlag valuesOf
+start-is b found e = pick (eqb b 0) (eqb b 1) refl refl e
+  where
+    pick :
+        (t u : Bool) → eqb b 0 ≡ t → eqb b 1 ≡ u → cond t (Taken StartBytes) (cond u (Taken StartPackets) (Refused 8)) ≡ Taken found
+        → valuesOf found ≡ 8 ∷ 0 ∷ b ∷ 0 ∷ []
+    pick true u p q e = let f : found ≡ StartBytes = cc in rw (eqb-true b 0 p, f)
+    pick false true p q e = let f : found ≡ StartPackets = cc in rw (eqb-true b 1 q, f)
+    pick false false p q e = let z : _≡_ {A = ℕ} 0 1 = cc in absurd (omega arith)
+
 values : (k a b c : ℕ) (call : Call) → inTable k a b c ≡ true → callOf k a b c ≡ Taken call → valuesOf call ≡ k ∷ a ∷ b ∷ c ∷ []
 unfolding inTable callOf valuesOf alrOf capacityOf packetOf
 values zero a b c call h e = absurd (true≢false (sym h))
@@ -70,10 +81,11 @@ values (suc (suc (suc (suc zero)))) a b c call h e =
 values (suc (suc (suc (suc (suc zero))))) a b c call h e = rw (taken-is _ _ call e)
 values (suc (suc (suc (suc (suc (suc zero)))))) a b c call h e = let z = two-zeros b c h in rw (report-is a call e, z .0, z .1)
 values (suc (suc (suc (suc (suc (suc (suc zero))))))) a b c call h e =
-    let p = both (eqb a 0) (eqb b 0 && eqb c 0) h in
+    let p = both (eqb a 0) (zeros b c) h in
     let z = two-zeros b c (p .1) in
     let f : call ≡ Read = cc in rw (f, eqb-true a 0 (p .0), z .0, z .1)
-values (suc (suc (suc (suc (suc (suc (suc (suc k)))))))) a b c call h e = absurd (true≢false (sym h))
+values (suc (suc (suc (suc (suc (suc (suc (suc zero)))))))) a b c call h e = let z = two-zeros a c h in rw (z .0, z .1) (start-is b call e)
+values (suc (suc (suc (suc (suc (suc (suc (suc (suc k))))))))) a b c call h e = absurd (true≢false (sym h))
 
 -- a line that is taken has its call's values in its fields
 pub taken-fields : (s : List ℕ) (call : Call) → lineOf s ≡ Taken call → fieldsOf s ≡ fields (valuesOf call)
@@ -103,6 +115,8 @@ four-values CapacityNone = refl
 four-values (Packet time lost size) = refl
 four-values (Report delay) = refl
 four-values Read = refl
+four-values StartBytes = refl
+four-values StartPackets = refl
 
 pub four-long : (call : Call) → length (valuesOf call) ≡ 4
 four-long call = ap length (four-values call)

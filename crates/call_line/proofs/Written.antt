@@ -26,11 +26,11 @@ use Rattle.packets.proofs.Totals.{packet-taken}
 use Rattle.loss_controller.specs.Setters.{timeRefusal}
 use Rattle.call_line.specs.declared.Fields.{Fields}
 use Rattle.call_line.specs.declared.Call.{Call}
-use Rattle.call_line.specs.declared.Call.the-variants.{Estimate, Acknowledged, AlrOn, AlrOff, CapacityIs, CapacityNone, Packet, Report, Read}
+use Rattle.call_line.specs.declared.Call.the-variants.{Estimate, Acknowledged, AlrOn, AlrOff, CapacityIs, CapacityNone, Packet, Report, Read, StartBytes, StartPackets}
 use Rattle.call_line.specs.declared.Line.the-variants.{Taken, Refused, ReportRefused}
 use Rattle.call_line.specs.Column.{column, start, total, row}
 use Rattle.call_line.specs.Line.{wide, narrow, fieldsOf, inTable, rateCode, unlessRefused, byFlag, reportOf, alrOf, capacityOf, packetOf, callOf}
-use Rattle.call_line.specs.Line.{valuesOf, checked, lineOf}
+use Rattle.call_line.specs.Line.{startOf, valuesOf, checked, lineOf}
 use Rattle.call_line.specs.Write.{asciiNewline, lineText, lineBytes, refusalOf, fields, callRefusal, writeRefusal, written, OfType, ReadBack}
 use Rattle.call_line.specs.Write.{CallNumbers, Kept, WriteKeeps, WriteRead, ReadWrite, WideRead, NarrowRead, NarrowTaken, TwoWidths}
 use Rattle.call_line.proofs.Columns.{starts-within, within, Shape, wide-shape, narrow-shape, Told, is-wide, is-narrow, other, told-by-length}
@@ -57,7 +57,7 @@ report-number a = pick (rateCode a) (eqb (rateCode a) 0) refl
 
 -- the table allows every call, so that 1 does not come
 pub call-numbers : CallNumbers
-unfolding valuesOf callRefusal checked inTable callOf alrOf capacityOf packetOf byFlag
+unfolding valuesOf callRefusal checked inTable callOf alrOf capacityOf packetOf startOf byFlag
 call-numbers (Estimate rate) = unless-number (rateCode rate) (Estimate rate)
 call-numbers (Acknowledged rate) = unless-number (rateCode rate) (Acknowledged rate)
 call-numbers (AlrOn start) = unless-number (timeRefusal start) (AlrOn start)
@@ -67,6 +67,8 @@ call-numbers CapacityNone = refl
 call-numbers (Packet time lost size) = unless-number _ (Packet time lost size)
 call-numbers (Report rate) = report-number rate
 call-numbers Read = refl
+call-numbers StartBytes = refl
+call-numbers StartPackets = refl
 
 -- ---- what is written is read
 
@@ -80,7 +82,7 @@ unfolding reportOf
 report-not-turned-down a h = simp (eq-eqb _ _ (sym (report-number a) ∙ h))
 
 values-say : (call : Call) → callRefusal call ≡ 0 → checked (fields (valuesOf call)) ≡ Taken call
-unfolding valuesOf callRefusal checked inTable callOf alrOf capacityOf packetOf byFlag
+unfolding valuesOf callRefusal checked inTable callOf alrOf capacityOf packetOf startOf byFlag
 values-say (Estimate rate) h = not-turned-down (rateCode rate) (Estimate rate) h
 values-say (Acknowledged rate) h = not-turned-down (rateCode rate) (Acknowledged rate) h
 values-say (AlrOn start) h = not-turned-down (timeRefusal start) (AlrOn start) h
@@ -90,9 +92,11 @@ values-say CapacityNone h = refl
 values-say (Packet time lost size) h = not-turned-down _ (Packet time lost size) h
 values-say (Report rate) h = report-not-turned-down rate h
 values-say Read h = refl
+values-say StartBytes h = refl
+values-say StartPackets h = refl
 
--- of the four values the kind is below 8, and the size is one that is taken
-kind-small : (call : Call) → getD (valuesOf call) 0 0 < 8
+-- of the four values the kind is below 9, and the size is one that is taken
+kind-small : (call : Call) → getD (valuesOf call) 0 0 < 9
 unfolding valuesOf
 kind-small (Estimate rate) = omega arith
 kind-small (Acknowledged rate) = omega arith
@@ -103,6 +107,8 @@ kind-small CapacityNone = omega arith
 kind-small (Packet time lost size) = omega arith
 kind-small (Report rate) = omega arith
 kind-small Read = omega arith
+kind-small StartBytes = omega arith
+kind-small StartPackets = omega arith
 
 size-small : (call : Call) → callRefusal call ≡ 0 → getD (valuesOf call) 3 0 ≤ largestPacket
 unfolding valuesOf
@@ -115,6 +121,8 @@ size-small CapacityNone h = omega arith
 size-small (Packet time lost size) h = packet-taken _ (sym (call-numbers (Packet time lost size)) ∙ h) .size-within
 size-small (Report rate) h = omega arith
 size-small Read h = omega arith
+size-small StartBytes h = omega arith
+size-small StartPackets h = omega arith
 
 -- a call is read from its text in columns of any widths in which its values have room
 call-says-in :
@@ -128,7 +136,7 @@ call-says-in ws w call t f h =
 
 -- kind, A and B have room in both widths, and so the size decides
 has-room :
-    (ws : List ℕ) → 8 ≤ 10 ^ getD ws 0 0 → 2 ^ 64 ≤ 10 ^ getD ws 1 0 → 2 ^ 64 ≤ 10 ^ getD ws 2 0 → (call : Call) → OfType call
+    (ws : List ℕ) → 9 ≤ 10 ^ getD ws 0 0 → 2 ^ 64 ≤ 10 ^ getD ws 1 0 → 2 ^ 64 ≤ 10 ^ getD ws 2 0 → (call : Call) → OfType call
     → getD (valuesOf call) 3 0 < 10 ^ getD ws 3 0 → (j : ℕ) → j < 4 → getD (valuesOf call) j 0 < 10 ^ getD ws j 0
 has-room ws k a b call t s zero h = omega (arith, kind-small call)
 has-room ws k a b call t s (suc zero) h = omega (arith, t 1)

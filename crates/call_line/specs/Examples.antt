@@ -8,12 +8,13 @@ use Rattle.float.specs.Rust.{signBit}
 use Rattle.packets.specs.Summary.{packetRefusal}
 use Rattle.loss_controller.specs.Setters.{rateRefusal, timeRefusal}
 use Rattle.call_line.specs.declared.Number.the-variants.{Value, Wrong}
-use Rattle.call_line.specs.declared.Call.the-variants.{Estimate, Acknowledged, AlrOn, AlrOff, CapacityIs, CapacityNone, Packet, Report, Read}
+use Rattle.call_line.specs.declared.Call.the-variants.{Estimate, Acknowledged, AlrOn, AlrOff, CapacityIs, CapacityNone, Packet, Report, Read, StartBytes, StartPackets}
 use Rattle.call_line.specs.declared.Line.the-variants.{Taken, Refused, ReportRefused}
 use Rattle.call_line.specs.Column.{isDigit, more, afterZero, digitsOf, leadingSpaces, columnOf, column, row}
 use Rattle.call_line.specs.Digits.{lastDigits}
 use Rattle.call_line.specs.Write.{lineText, callRefusal, writeRefusal, written}
-use Rattle.call_line.specs.Line.{wide, narrow, four, fieldsIn, fieldsOf, inTable, unlessRefused, byFlag, reportOf, alrOf, capacityOf, packetOf, callOf, valuesOf, checked, lineOf}
+use Rattle.call_line.specs.Line.{wide, narrow, four, fieldsIn, fieldsOf, inTable, unlessRefused, byFlag, reportOf, alrOf, capacityOf, packetOf, startOf}
+use Rattle.call_line.specs.Line.{callOf, valuesOf, checked, lineOf}
 
 -- ---- columns
 
@@ -123,9 +124,9 @@ unfolding line narrow-line row column lineOf checked fieldsOf fieldsIn four colu
     rateRefusal ofBits toBits lt signBit
 out-of-shape = refl
 
--- kinds 0 and 8; a B or a C where the table says 0, also a C above 9,999,999; a read with an A
+-- kinds 0 and 9; a B or a C where the table says 0, also a C above 9,999,999; a read with an A
 out-of-table :
-    map lineOf (line 0 0 0 0 ∷ line 8 0 0 0 ∷ line 1 0 1 0 ∷ line 2 0 0 1 ∷ line 6 0 0 1 ∷ line 6 0 0 10000000 ∷ line 7 1 0 0 ∷ []) ≡
+    map lineOf (line 0 0 0 0 ∷ line 9 0 0 0 ∷ line 1 0 1 0 ∷ line 2 0 0 1 ∷ line 6 0 0 1 ∷ line 6 0 0 10000000 ∷ line 7 1 0 0 ∷ []) ≡
     replicate 7 (Refused 1)
 unfolding line row column lineOf checked fieldsOf fieldsIn four columnOf leadingSpaces digitsOf isDigit more afterZero inTable callOf
 out-of-table = refl
@@ -200,6 +201,29 @@ unfolding line row column lineOf checked fieldsOf fieldsIn four columnOf leading
     reportOf rateRefusal ofBits toBits lt signBit
 rates = refl
 
+-- kind 8 (Q-7): the flags 0 and 1, 2 and the largest; an A or a C, and an A or a C with the flag 2: 1 comes before 8
+starts :
+    map lineOf
+    (line 8 0 0 0
+    ∷ line 8 0 1 0
+    ∷ line 8 0 2 0
+    ∷ line 8 0 (2 ^ 64 - 1) 0
+    ∷ line 8 1 0 0
+    ∷ line 8 0 1 1
+    ∷ line 8 1 2 0
+    ∷ line 8 0 2 1
+    ∷ []) ≡
+    Taken StartBytes ∷ Taken StartPackets ∷ Refused 8 ∷ Refused 8 ∷ replicate 4 (Refused 1)
+unfolding line row column lineOf checked fieldsOf fieldsIn four columnOf leadingSpaces digitsOf isDigit more afterZero inTable callOf byFlag startOf
+starts = refl
+
+narrow-starts :
+    map lineOf (narrow-line 8 0 0 0 ∷ narrow-line 8 0 1 0 ∷ narrow-line 8 0 2 0 ∷ narrow-line 8 1 2 0 ∷ narrow-line 8 0 2 1 ∷ []) ≡
+    Taken StartBytes ∷ Taken StartPackets ∷ Refused 8 ∷ Refused 1 ∷ Refused 1 ∷ []
+unfolding narrow-line row column lineOf checked fieldsOf fieldsIn four columnOf leadingSpaces digitsOf isDigit more afterZero inTable callOf byFlag
+    startOf
+narrow-starts = refl
+
 -- ---- calls written
 
 -- document 01's whole example, byte by byte: an estimate of 1,000,000 bit/s, and a read
@@ -217,14 +241,14 @@ texts = refl
 -- every kind of call, those with a flag on and off: its fields
 fields :
     map lineText
-    (Acknowledged 7 ∷ AlrOn 7 ∷ AlrOff ∷ CapacityIs 7 ∷ CapacityNone ∷ Packet 7 1 1200 ∷ Report 7 ∷ []) ≡
+    (Acknowledged 7 ∷ AlrOn 7 ∷ AlrOff ∷ CapacityIs 7 ∷ CapacityNone ∷ Packet 7 1 1200 ∷ Report 7 ∷ StartBytes ∷ StartPackets ∷ []) ≡
     map (λ l. l ++ (10 ∷ []))
-    (line 2 7 0 0 ∷ line 3 7 1 0 ∷ line 3 0 0 0 ∷ line 4 7 1 0 ∷ line 4 0 0 0 ∷ line 5 7 1 1200 ∷ line 6 7 0 0 ∷ [])
+    (line 2 7 0 0 ∷ line 3 7 1 0 ∷ line 3 0 0 0 ∷ line 4 7 1 0 ∷ line 4 0 0 0 ∷ line 5 7 1 1200 ∷ line 6 7 0 0 ∷ line 8 0 0 0 ∷ line 8 0 1 0 ∷ [])
 unfolding lineText valuesOf line
 fields = refl
 
 -- the reader's number, also with no room: -0.0, a capacity and a report above 10^15, ALR and a packet too late, the latter also too large and with the flag
--- 2, a packet too large, also with the flag 2, the flag 2; 13 with one byte too few, and nothing to refuse with one more: a NaN, off, none
+-- 2, a packet too large, also with the flag 2, the flag 2; 13 with one byte too few, and nothing to refuse with one more: a NaN, off, none, a start
 refusals :
     map (λ call. map (writeRefusal call) (0 ∷ 50 ∷ 51 ∷ []))
     (Estimate (2 ^ 63)
@@ -239,11 +263,12 @@ refusals :
     ∷ Acknowledged 0xFFF8000000000001
     ∷ AlrOff
     ∷ CapacityNone
+    ∷ StartPackets
     ∷ []) ≡
     replicate 3 2 ∷ replicate 3 2 ∷ replicate 3 2 ∷ replicate 3 3 ∷ replicate 3 3 ∷ replicate 3 3 ∷ replicate 3 17 ∷ replicate 3 17 ∷ replicate 3 8
     ∷ (13 ∷ 13 ∷ 0 ∷ [])
-    ∷ (13 ∷ 13 ∷ 0 ∷ []) ∷ (13 ∷ 13 ∷ 0 ∷ []) ∷ []
-unfolding writeRefusal callRefusal valuesOf checked inTable callOf unlessRefused byFlag reportOf alrOf capacityOf packetOf
+    ∷ (13 ∷ 13 ∷ 0 ∷ []) ∷ (13 ∷ 13 ∷ 0 ∷ []) ∷ (13 ∷ 13 ∷ 0 ∷ []) ∷ []
+unfolding writeRefusal callRefusal valuesOf checked inTable callOf unlessRefused byFlag reportOf alrOf capacityOf packetOf startOf
     rateRefusal timeRefusal packetRefusal ofBits toBits lt signBit
 refusals = refl
 

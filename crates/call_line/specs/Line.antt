@@ -12,7 +12,7 @@ use Rattle.call_line.specs.declared.Number.the-variants.{Value, Wrong}
 use Rattle.call_line.specs.declared.Fields.{Fields}
 use Rattle.call_line.specs.declared.Fields.the-variants.{Read as Fields·Read, Unreadable}
 use Rattle.call_line.specs.declared.Call.{Call}
-use Rattle.call_line.specs.declared.Call.the-variants.{Estimate, Acknowledged, AlrOn, AlrOff, CapacityIs, CapacityNone, Packet, Report, Read}
+use Rattle.call_line.specs.declared.Call.the-variants.{Estimate, Acknowledged, AlrOn, AlrOff, CapacityIs, CapacityNone, Packet, Report, Read, StartBytes, StartPackets}
 use Rattle.call_line.specs.declared.Line.{Line}
 use Rattle.call_line.specs.declared.Line.the-variants.{Taken, Refused, ReportRefused}
 use Rattle.call_line.specs.Column.{columnOf, total, cut}
@@ -54,20 +54,26 @@ pub data Rule : Type 0 where
   flagged : Rule
   packet : Rule
   bare : Rule
+  flagAlone : Rule
 
--- the rules of the kinds 0 to 7: "kind outside 1 to 7" is refused
+-- the rules of the kinds 0 to 8: "kind outside 1 to 8" is refused
 abbrev pub ruleOf : ℕ → Rule
-ruleOf kind = getD (none ∷ alone ∷ alone ∷ flagged ∷ flagged ∷ packet ∷ alone ∷ bare ∷ []) kind none
+ruleOf kind = getD (none ∷ alone ∷ alone ∷ flagged ∷ flagged ∷ packet ∷ alone ∷ bare ∷ flagAlone ∷ []) kind none
+
+abbrev pub zeros : ℕ → ℕ → Bool
+zeros one other = eqb one 0 && eqb other 0
 
 -- "a nonzero field where the table says 0"
 abbrev pub allowed : Rule → ℕ → ℕ → ℕ → Bool
 allowed none a b c = false
-allowed alone a b c = eqb b 0 && eqb c 0
+allowed alone a b c = zeros b c
 -- A is "0 if off" and "0 if none". A flag that is neither 0 nor 1 is no matter of the table
 allowed flagged a b c = eqb c 0 && (not (eqb b 0) || eqb a 0)
 -- "Code 1 no longer limits C by size" (Q-10)
 allowed packet a b c = true
-allowed bare a b c = eqb a 0 && (eqb b 0 && eqb c 0)
+allowed bare a b c = eqb a 0 && zeros b c
+-- "A and C 0" (Q-7)
+allowed flagAlone a b c = zeros a c
 
 unfoldable pub inTable : ℕ → ℕ → ℕ → ℕ → Bool
 inTable kind a b c = allowed (ruleOf kind) a b c
@@ -103,7 +109,11 @@ unfoldable pub packetOf : ℕ → ℕ → ℕ → Line
 packetOf a b c =
     unlessRefused (packetRefusal (record { «local_send_time» = a; size = c; lost = b })) (Packet a b c)
 
--- the kinds 0 to 7
+-- "B being 0 for bytes and 1 for packets", "another B is code 8" (Q-7)
+unfoldable pub startOf : ℕ → Line
+startOf b = byFlag b (Taken StartBytes) (Taken StartPackets)
+
+-- the kinds 0 to 8
 unfoldable pub callOf : ℕ → ℕ → ℕ → ℕ → Line
 callOf kind a b c =
     getD
@@ -115,6 +125,7 @@ callOf kind a b c =
     ∷ packetOf a b c
     ∷ reportOf a
     ∷ Taken Read
+    ∷ startOf b
     ∷ [])
     kind
     (Refused 1)
@@ -130,6 +141,8 @@ valuesOf CapacityNone = 4 ∷ 0 ∷ 0 ∷ 0 ∷ []
 valuesOf (Packet time lost size) = 5 ∷ time ∷ lost ∷ size ∷ []
 valuesOf (Report delay) = 6 ∷ delay ∷ 0 ∷ 0 ∷ []
 valuesOf Read = 7 ∷ 0 ∷ 0 ∷ 0 ∷ []
+valuesOf StartBytes = 8 ∷ 0 ∷ 0 ∷ 0 ∷ []
+valuesOf StartPackets = 8 ∷ 0 ∷ 1 ∷ 0 ∷ []
 
 -- "A line checks 1, then the flag's 8, 2 or 3", and kind 5 its packet's
 unfoldable pub checked : Fields → Line

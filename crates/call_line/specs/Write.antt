@@ -11,7 +11,7 @@ use Rattle.loss_controller.specs.Setters.{timeRefusal}
 use Rattle.call_line.specs.declared.Fields.{Fields}
 use Rattle.call_line.specs.declared.Fields.the-variants.{Read as Fields·Read}
 use Rattle.call_line.specs.declared.Call.{Call}
-use Rattle.call_line.specs.declared.Call.the-variants.{Estimate, Acknowledged, AlrOn, AlrOff, CapacityIs, CapacityNone, Packet, Report, Read}
+use Rattle.call_line.specs.declared.Call.the-variants.{Estimate, Acknowledged, AlrOn, AlrOff, CapacityIs, CapacityNone, Packet, Report, Read, StartBytes, StartPackets}
 use Rattle.call_line.specs.declared.Line.{Line}
 use Rattle.call_line.specs.declared.Line.the-variants.{Taken, Refused, ReportRefused}
 use Rattle.call_line.specs.Column.{total, row}
@@ -57,6 +57,8 @@ numberOf CapacityNone = 0
 numberOf (Packet time lost size) = packetRefusal (record { «local_send_time» = time; size = size; lost = lost })
 numberOf (Report rate) = rateCode rate
 numberOf Read = 0
+numberOf StartBytes = 0
+numberOf StartPackets = 0
 
 abbrev pub CallNumbers : Type 0
 CallNumbers = (call : Call) → callRefusal call ≡ numberOf call

@@ -5,8 +5,8 @@ ghost use Prim.Native.Nat.{_*_, _/_, _%_, _≤_, _<_};
 ghost use lib.ListN.{length};
 ghost use Rattle.call_line.specs.Column.{isDigit, digitsOf, column, total};
 ghost use Rattle.call_line.specs.Digits.{lastDigits};
-ghost use Rattle.call_line.specs.Line.{Four, alone, flagged, allowed, fieldsIn, fieldsOf, inTable, rateCode, unlessRefused, alrOf, capacityOf, packetOf};
-ghost use Rattle.call_line.specs.Line.{reportOf, callOf, valuesOf, checked, lineOf};
+ghost use Rattle.call_line.specs.Line.{Four, zeros, flagged, allowed, fieldsIn, fieldsOf, inTable, rateCode, unlessRefused, alrOf, capacityOf, packetOf};
+ghost use Rattle.call_line.specs.Line.{reportOf, startOf, callOf, valuesOf, checked, lineOf};
 ghost use Rattle.call_line.specs.Write.{callRefusal, writeRefusal, written, ReadBack};
 ghost use Rattle.call_line.specs.declared.Fields.the-variants.{Read};
 use bandwidth::Bitrate;
@@ -38,7 +38,8 @@ enum Fields {
     Unreadable,
 }
 
-// Rates are the 64 bits of an f64, times are in ns, `lost` is 1 or 0.
+// Rates are the 64 bits of an f64, times are in ns, `lost` is 1 or 0. The last two start anew, with
+// loss counted in bytes or in packets.
 pub enum Call {
     Estimate(u64),
     Acknowledged(u64),
@@ -53,6 +54,8 @@ pub enum Call {
     },
     Report(u64),
     Read,
+    StartBytes,
+    StartPackets,
 }
 
 // A call, or the number of the line's refusal. A report that is refused with another than 1 empties
@@ -162,14 +165,14 @@ fn read_fields(line: &[u8]) -> Fields
     read_columns(line, widths)
 }
 
-// B and C are 0.
-fn a_alone(b: u64, c: u64) -> bool
-    ensures { λ r. ⌜ r ≡ allowed alone 0 b c ⌝ }
+// Both fields are 0.
+fn both_zero(one: u64, other: u64) -> bool
+    ensures { λ r. ⌜ r ≡ zeros one other ⌝ }
 {
-    if b != 0 {
+    if one != 0 {
         return false;
     }
-    c == 0
+    other == 0
 }
 
 // C is 0, and A is 0 where the flag B is.
@@ -190,15 +193,16 @@ fn in_table(kind: u64, a: u64, b: u64, c: u64) -> bool
     ensures { λ r. ⌜ r ≡ inTable kind a b c ⌝ }
 {
     match kind {
-        1..=2 | 6 => a_alone(b, c),
+        1..=2 | 6 => both_zero(b, c),
         3..=4 => a_with_flag(a, b, c),
         5 => true,
         7 => {
             if a != 0 {
                 return false;
             }
-            a_alone(b, c)
+            both_zero(b, c)
         }
+        8 => both_zero(a, c),
         _ => false,
     }
 }
@@ -277,6 +281,16 @@ fn report(a: u64) -> Line
     Line::Taken(Call::Report(a))
 }
 
+fn start(b: u64) -> Line
+    ensures { λ r. ⌜ r ≡ startOf b ⌝ }
+{
+    match b {
+        0 => Line::Taken(Call::StartBytes),
+        1 => Line::Taken(Call::StartPackets),
+        _ => Line::Refused(8),
+    }
+}
+
 // The call of fields that the table allows.
 fn call_of(kind: u64, a: u64, b: u64, c: u64) -> Line
     ensures { λ r. ⌜ r ≡ callOf kind a b c ⌝ }
@@ -295,6 +309,7 @@ fn call_of(kind: u64, a: u64, b: u64, c: u64) -> Line
         5 => packet(a, b, c),
         6 => report(a),
         7 => Line::Taken(Call::Read),
+        8 => start(b),
         _ => Line::Refused(1),
     }
 }
@@ -440,6 +455,8 @@ fn values(call: Call) -> [u64; COLUMNS]
         Call::Packet { time, lost, size } => [5, time, lost as u64, size as u64],
         Call::Report(delay) => [6, delay, 0, 0],
         Call::Read => [7, 0, 0, 0],
+        Call::StartBytes => [8, 0, 0, 0],
+        Call::StartPackets => [8, 0, 1, 0],
     }
 }
 

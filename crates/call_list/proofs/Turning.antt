@@ -12,7 +12,7 @@ use Rattle.float.proofs.Both.{both}
 use Rattle.loss_controller.specs.declared.LossController.{LossController}
 use Rattle.loss_controller.specs.declared.ControllerAnswer.{ControllerAnswer}
 use Rattle.call_line.specs.declared.Call.{Call}
-use Rattle.call_line.specs.declared.Call.the-variants.{Estimate, Acknowledged, AlrOn, AlrOff, CapacityIs, CapacityNone, Packet, Report, Read}
+use Rattle.call_line.specs.declared.Call.the-variants.{Estimate, Acknowledged, AlrOn, AlrOff, CapacityIs, CapacityNone, Packet, Report, Read, StartBytes, StartPackets}
 use Rattle.call_line.specs.declared.Line.{Line}
 use Rattle.call_line.specs.declared.Line.the-variants.{Taken, Refused, ReportRefused}
 use Rattle.call_list.specs.declared.Reading.{Reading}
@@ -59,6 +59,8 @@ call-after-is m (AlrOn start) = refl
 call-after-is m AlrOff = refl
 call-after-is m (CapacityIs rate) = refl
 call-after-is m CapacityNone = refl
+call-after-is m StartBytes = refl
+call-after-is m StartPackets = refl
 
 -- so a line that does not call the controller leaves it, and its reading
 after-is : (m : Machine) (l : Line) → afterOf m l ≡ parts m (calls l) (lineControlled (m .controller) (m .queue) l) (lineQueued (m .queue) l)
@@ -88,6 +90,8 @@ call-same q (AlrOn start) e = same q
 call-same q AlrOff e = same q
 call-same q (CapacityIs rate) e = same q
 call-same q CapacityNone e = same q
+call-same q StartBytes e = record { times = refl; sizes = refl; flags = refl }
+call-same q StartPackets e = record { times = refl; sizes = refl; flags = refl }
 
 line-same : (q : Queue) (l : Line) → calls l ≡ true → Same (lineQueued q l .queue) q
 unfolding calls lineQueued

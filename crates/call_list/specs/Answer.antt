@@ -1,7 +1,7 @@
 -- What a line leaves, and its answer (document 01, "Call lists"). Definitions only.
 use Prim.Native.Nat.{ℕ, _+_}
 use mathlib.Core.Path.{_≡_}
-use mathlib.Core.Bool.{cond}
+use mathlib.Core.Bool.{Bool, true, false, cond}
 use mathlib.Core.List.{List, [], _∷_, _++_}
 use lib.Dec.{ltb}
 use lib.Ieee.{binary64, toBits}
@@ -11,6 +11,7 @@ use Rattle.bandwidth.specs.declared.OptionBitrate.{OptionBitrate}
 use Rattle.bandwidth.specs.declared.OptionBitrate.the-variants.{Some, None}
 use Rattle.estimator.specs.State.{number}
 use Rattle.packets.specs.Summary.{mostPackets}
+use Rattle.loss_controller.specs.Controller.{initial}
 use Rattle.loss_controller.specs.Setters.{rateOf, setBandwidthEstimate, setAcknowledgedBitrate, setAlrStartTime, setLinkCapacityEstimate}
 use Rattle.loss_controller.specs.Report.{updateBandwidthEstimate}
 use Rattle.loss_controller.specs.Result.{lossBasedResult, inherentLoss}
@@ -19,7 +20,7 @@ use Rattle.loss_controller.specs.declared.LossController.{LossController}
 use Rattle.loss_controller.specs.declared.ControllerAnswer.{ControllerAnswer}
 use Rattle.call_line.specs.Column.{column, total}
 use Rattle.call_line.specs.declared.Call.{Call}
-use Rattle.call_line.specs.declared.Call.the-variants.{Estimate, Acknowledged, AlrOn, AlrOff, CapacityIs, CapacityNone, Packet, Report, Read}
+use Rattle.call_line.specs.declared.Call.the-variants.{Estimate, Acknowledged, AlrOn, AlrOff, CapacityIs, CapacityNone, Packet, Report, Read, StartBytes, StartPackets}
 use Rattle.call_line.specs.declared.Line.{Line}
 use Rattle.call_line.specs.declared.Line.the-variants.{Taken, Refused, ReportRefused}
 use Rattle.call_list.specs.declared.Reading.{Reading}
@@ -82,6 +83,10 @@ packetAfter m time lost size =
 unfoldable pub reportOf : LossController → Queue → Bitrate → ControllerAnswer
 reportOf c q delay = updateBandwidthEstimate c (take (q .count) (q .times)) (take (q .count) (q .sizes)) (take (q .count) (q .flags)) delay
 
+-- "Line kind 8 starts a fresh controller and empties the queue" (Q-7)
+abbrev pub started : Bool → Queue → Answered
+started useBytes q = record { refusal = 0; machine = record { controller = initial useBytes; queue = emptied q } }
+
 -- the table's calls
 unfoldable pub callAfter : Machine → Call → Answered
 callAfter m (Estimate rate) = called (setBandwidthEstimate (m .controller) (rateOf rate)) (m .queue)
@@ -93,6 +98,8 @@ callAfter m CapacityNone = called (setLinkCapacityEstimate (m .controller) None)
 callAfter m (Packet time lost size) = packetAfter m time lost size
 callAfter m (Report delay) = called (reportOf (m .controller) (m .queue) (rateOf delay)) (emptied (m .queue))
 callAfter m Read = unmoved m 0
+callAfter m StartBytes = started true (m .queue)
+callAfter m StartPackets = started false (m .queue)
 
 -- "A kind 6 line that doesn't get code 1 empties the queue, whether or not another code follows."
 unfoldable pub afterOf : Machine → Line → Answered

@@ -1,7 +1,7 @@
 -- The program byte by byte, and what its functions leave. Definitions only.
 use Prim.Native.Nat.{ℕ, _+_, _/_}
 use mathlib.Core.Path.{_≡_}
-use mathlib.Core.Bool.{Bool, cond, _&&_}
+use mathlib.Core.Bool.{Bool, true, cond, _&&_}
 use mathlib.Core.List.{List, [], _∷_, _++_}
 use lib.Dec.{eqb, leb, ltb}
 use lib.ListN.{length, take, drop, set, replicate}
@@ -75,7 +75,7 @@ startOf p times sizes flags =
 
 -- `start`
 abbrev pub fresh : State
-fresh = record { line = blank; len = 0; controller = initial; queued = 0 }
+fresh = record { line = blank; len = 0; controller = initial true; queued = 0 }
 
 -- what a function leaves that takes it to the run r
 pub record FedBy (f : Fed) (ts ss fs o : List ℕ) (r : Run) (o₀ : List ℕ) : Type 0 where

@@ -6,13 +6,13 @@ use mathlib.Core.Bool.{Bool, true, false, cond}
 use mathlib.Core.List.{List}
 use lib.Dec.{ltb}
 use Rattle.bandwidth.specs.declared.OptionBitrate.the-variants.{Some, None}
-use Rattle.loss_controller.specs.Controller.{answered}
+use Rattle.loss_controller.specs.Controller.{initial, answered}
 use Rattle.loss_controller.specs.Setters.{rateOf, setBandwidthEstimate, setAcknowledgedBitrate, setAlrStartTime, setLinkCapacityEstimate}
 use Rattle.loss_controller.specs.declared.OptionInstant.the-variants.{Some as On, None as Off}
 use Rattle.loss_controller.specs.declared.LossController.{LossController}
 use Rattle.loss_controller.specs.declared.ControllerAnswer.{ControllerAnswer}
 use Rattle.call_line.specs.declared.Call.{Call}
-use Rattle.call_line.specs.declared.Call.the-variants.{Estimate, Acknowledged, AlrOn, AlrOff, CapacityIs, CapacityNone, Packet, Report, Read}
+use Rattle.call_line.specs.declared.Call.the-variants.{Estimate, Acknowledged, AlrOn, AlrOff, CapacityIs, CapacityNone, Packet, Report, Read, StartBytes, StartPackets}
 use Rattle.call_line.specs.declared.Line.{Line}
 use Rattle.call_line.specs.declared.Line.the-variants.{Taken, Refused, ReportRefused}
 use Rattle.call_list.specs.Answer.{Queue, places, emptied, withPacket, reportOf}
@@ -40,6 +40,8 @@ callQueued q AlrOff = left 0 q
 callQueued q (CapacityIs rate) = left 0 q
 callQueued q CapacityNone = left 0 q
 callQueued q Read = left 0 q
+callQueued q StartBytes = left 0 (emptied q)
+callQueued q StartPackets = left 0 (emptied q)
 
 unfoldable pub lineQueued : Queue → Line → Queued
 lineQueued q (Taken call) = callQueued q call
@@ -48,7 +50,7 @@ lineQueued q (ReportRefused refusal) = left refusal (emptied q)
 
 -- ---- the controller
 
--- whether a call is one of the controller's that may change it
+-- whether a call is one that may change the controller
 unfoldable pub callCalls : Call → Bool
 callCalls (Packet time lost size) = false
 callCalls Read = false
@@ -59,6 +61,8 @@ callCalls (AlrOn start) = true
 callCalls AlrOff = true
 callCalls (CapacityIs rate) = true
 callCalls CapacityNone = true
+callCalls StartBytes = true
+callCalls StartPackets = true
 
 unfoldable pub calls : Line → Bool
 calls (Taken call) = callCalls call
@@ -75,6 +79,8 @@ callControlled c q CapacityNone = setLinkCapacityEstimate c None
 callControlled c q (Report delay) = reportOf c q (rateOf delay)
 callControlled c q (Packet time lost size) = answered c
 callControlled c q Read = answered c
+callControlled c q StartBytes = answered (initial true)
+callControlled c q StartPackets = answered (initial false)
 
 unfoldable pub lineControlled : LossController → Queue → Line → ControllerAnswer
 lineControlled c q (Taken call) = callControlled c q call

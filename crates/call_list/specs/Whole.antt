@@ -45,9 +45,9 @@ joined (c ∷ cs) = c ++ joined cs
 abbrev pub none : List ℕ
 none = replicate places 0
 
--- a fresh controller and an empty queue
+-- a fresh controller and an empty queue: "a list without it runs by bytes" (Q-7)
 abbrev pub freshMachine : Machine
-freshMachine = record { controller = initial; queue = queueOf 0 none none none }
+freshMachine = record { controller = initial true; queue = queueOf 0 none none none }
 
 -- what the program writes, whole
 unfoldable pub answers : List ℕ → List ℕ

@@ -161,6 +161,8 @@ fn quiet_call(
         Call::AlrOff => calling(queued),
         Call::CapacityIs(_) => calling(queued),
         Call::CapacityNone => calling(queued),
+        Call::StartBytes => calling(0),
+        Call::StartPackets => calling(0),
     }
 }
 
@@ -214,7 +216,7 @@ fn rate(bits: u64) -> Bitrate
     Bitrate::from_f64(float::from_bits(bits))
 }
 
-fn unchanged(controller: LossController) -> ControllerAnswer
+fn answered(controller: LossController) -> ControllerAnswer
     ensures { λ r. ⌜ r ≡ record { controller = controller; refusal = 0 } ⌝ }
 {
     ControllerAnswer {
@@ -273,8 +275,10 @@ fn control_call(
             time: _,
             lost: _,
             size: _,
-        } => unchanged(controller),
-        Call::Read => unchanged(controller),
+        } => answered(controller),
+        Call::Read => answered(controller),
+        Call::StartBytes => answered(LossController::with_profile(true)),
+        Call::StartPackets => answered(LossController::with_profile(false)),
     }
 }
 
@@ -290,8 +294,8 @@ fn control(
 {
     match line {
         Line::Taken(call) => control_call(controller, queued, times, sizes, flags, call),
-        Line::Refused(_) => unchanged(controller),
-        Line::ReportRefused(_) => unchanged(controller),
+        Line::Refused(_) => answered(controller),
+        Line::ReportRefused(_) => answered(controller),
     }
 }
 

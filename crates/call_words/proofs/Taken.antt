@@ -24,7 +24,7 @@ use Rattle.call_line.specs.Write.{callRefusal}
 use Rattle.call_line.specs.declared.Number.{Number}
 use Rattle.call_line.specs.declared.Number.the-variants.{Value, Wrong as Number·Wrong}
 use Rattle.call_line.specs.declared.Call.{Call}
-use Rattle.call_line.specs.declared.Call.the-variants.{Estimate, Acknowledged, AlrOn, AlrOff, CapacityIs, CapacityNone, Packet, Report, Read}
+use Rattle.call_line.specs.declared.Call.the-variants.{Estimate, Acknowledged, AlrOn, AlrOff, CapacityIs, CapacityNone, Packet, Report, Read, StartBytes, StartPackets}
 use Rattle.call_line.proofs.Written.{call-numbers, call-says}
 use Rattle.call_words.specs.declared.Why.{Why}
 use Rattle.call_words.specs.declared.Why.the-variants.{Rate, Time}
@@ -32,10 +32,10 @@ use Rattle.call_words.specs.declared.Words.{Words}
 use Rattle.call_words.specs.declared.Words.the-variants.{Call as Called, Nothing, Wrong}
 use Rattle.call_words.specs.declared.Valued.{Valued}
 use Rattle.call_words.specs.declared.Valued.the-variants.{Estimate as Valued·Estimate, Acknowledged as Valued·Acknowledged}
-use Rattle.call_words.specs.declared.Valued.the-variants.{Alr as Valued·Alr, Capacity as Valued·Capacity, Report as Valued·Report}
+use Rattle.call_words.specs.declared.Valued.the-variants.{Alr as Valued·Alr, Capacity as Valued·Capacity, Report as Valued·Report, Start as Valued·Start}
 use Rattle.call_words.specs.declared.Name.{Name}
 use Rattle.call_words.specs.declared.Name.the-variants.{WithValue, Packet as Name·Packet, Read as Name·Read, Unknown}
-use Rattle.call_words.specs.Words.{ascii, same, atMost, bitsOf, rateOf, sizeOf, nanosOf, timeOf, given, alrOf, capacityOf, withValue}
+use Rattle.call_words.specs.Words.{ascii, same, atMost, bitsOf, rateOf, sizeOf, nanosOf, timeOf, given, alrOf, capacityOf, startOf, withValue}
 use Rattle.call_words.specs.Words.{withOutcome, packetBy, packetOf, nameOf, callOf, isComment, said, wordsIn, wordsOf}
 use Rattle.call_words.specs.Laws.{WordsTaken, WordsRead}
 use Rattle.call_words.proofs.Numbers.{at-most}
@@ -111,6 +111,8 @@ Fits CapacityNone = Unit {0}
 Fits (Packet time lost size) = (time ≤ latestTime) × ((lost ≤ 1) × (size ≤ largestPacket))
 Fits (Report rate) = Rated rate
 Fits Read = Unit {0}
+Fits StartBytes = Unit {0}
+Fits StartPackets = Unit {0}
 
 given-fits : (call : ℕ → Call) (why : Why) (a : Number) → IfValue (λ n. Fits (call n)) a → IfCalled Fits (given call why a)
 unfolding given
@@ -118,7 +120,7 @@ given-fits call why (Value n) h = h
 given-fits call why Number·Wrong h = tt
 
 value-fits : (name : Valued) (word : List ℕ) → IfCalled Fits (withValue name word)
-unfolding withValue alrOf capacityOf
+unfolding withValue alrOf capacityOf startOf
 value-fits Valued·Estimate word = given-fits Estimate Rate (rateOf word) (rate-rated word)
 value-fits Valued·Acknowledged word = given-fits Acknowledged Rate (rateOf word) (rate-rated word)
 value-fits Valued·Alr word =
@@ -126,6 +128,8 @@ value-fits Valued·Alr word =
 value-fits Valued·Capacity word =
     either (IfCalled Fits) (same word (ascii "none")) _ _ tt (given-fits CapacityIs Rate (rateOf word) (rate-rated word))
 value-fits Valued·Report word = given-fits Report Rate (rateOf word) (rate-rated word)
+value-fits Valued·Start word =
+    either (IfCalled Fits) (same word (ascii "bytes")) _ _ tt (either (IfCalled Fits) (same word (ascii "packets")) _ _ tt tt)
 
 packet-fits :
     (time size : Number) (outcome : List ℕ) → IfValue (λ n. n ≤ latestTime) time → IfValue (λ n. n ≤ largestPacket) size
@@ -180,6 +184,8 @@ wide CapacityNone h = (lit< tt, (lit< tt, (lit< tt, (lit< tt, tt))))
 wide (Packet time lost size) h = (lit< tt, (omega arith, (omega arith, (omega arith, tt))))
 wide (Report rate) h = (lit< tt, (h .1, (lit< tt, (lit< tt, tt))))
 wide Read h = (lit< tt, (lit< tt, (lit< tt, (lit< tt, tt))))
+wide StartBytes h = (lit< tt, (lit< tt, (lit< tt, (lit< tt, tt))))
+wide StartPackets h = (lit< tt, (lit< tt, (lit< tt, (lit< tt, tt))))
 
 taken : (call : Call) → Fits call → callRefusal call ≡ 0
 unfolding valuesOf timeRefusal packetRefusal
@@ -193,6 +199,8 @@ taken (Packet time lost size) h =
     call-numbers (Packet time lost size) ∙ simp (le-leb time latestTime (h .0), le-leb size largestPacket (h .1 .1), le-leb lost 1 (h .1 .0))
 taken (Report rate) h = call-numbers (Report rate) ∙ h .0
 taken Read h = call-numbers Read
+taken StartBytes h = call-numbers StartBytes
+taken StartPackets h = call-numbers StartPackets
 
 pub words-taken : WordsTaken
 unfolding wordsOf

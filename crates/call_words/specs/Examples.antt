@@ -5,13 +5,13 @@ use mathlib.Core.List.{[], _∷_, _++_, map}
 use lib.Ieee.{ofInt, toBits}
 use lib.ListN.{replicate}
 use Rattle.call_line.specs.Column.{isDigit, more, afterZero, digitsOf}
-use Rattle.call_line.specs.declared.Call.the-variants.{Estimate, Acknowledged, AlrOn, AlrOff, CapacityIs, CapacityNone, Packet, Report, Read}
-use Rattle.call_words.specs.declared.Why.the-variants.{UnknownCall, WordCount, Rate, Time, Size, Outcome}
+use Rattle.call_line.specs.declared.Call.the-variants.{Estimate, Acknowledged, AlrOn, AlrOff, CapacityIs, CapacityNone, Packet, Report, Read, StartBytes, StartPackets}
+use Rattle.call_words.specs.declared.Why.the-variants.{UnknownCall, WordCount, Rate, Time, Size, Outcome, Measure}
 use Rattle.call_words.specs.declared.Words.{Words}
 use Rattle.call_words.specs.declared.Words.the-variants.{Call as Called, Nothing, Wrong}
 use Rattle.call_words.specs.Words.{ascii, same, upTo, onFrom, isBlank, wordsFrom, wordsIn, atMost, bitsOf, rateOf, sizeOf, isPoint}
-use Rattle.call_words.specs.Words.{times, placesOf, fractionOf, plus, nanosOf, timeOf, given, alrOf, capacityOf, withValue, withOutcome}
-use Rattle.call_words.specs.Words.{packetBy, packetOf, names, nameIn, callOf, isComment, said, wordsOf}
+use Rattle.call_words.specs.Words.{times, placesOf, fractionOf, plus, nanosOf, timeOf, given, alrOf, capacityOf, startOf, withValue}
+use Rattle.call_words.specs.Words.{withOutcome, packetBy, packetOf, names, nameIn, callOf, isComment, said, wordsOf}
 
 abbrev line : String → Words
 line text = wordsOf (ascii text)
@@ -60,9 +60,11 @@ counts :
     ∷ "packet x y z lost"
     ∷ "report"
     ∷ "read now"
+    ∷ "start"
+    ∷ "start bytes now"
     ∷ "hello x y z"
     ∷ []) ≡
-    replicate 10 (Wrong WordCount) ++ (Wrong UnknownCall ∷ [])
+    replicate 12 (Wrong WordCount) ++ (Wrong UnknownCall ∷ [])
 unfolding wordsOf said isComment wordsFrom isBlank upTo names nameIn same callOf
 counts = refl
 
@@ -158,3 +160,11 @@ packets = refl
 reading : line "read" ≡ Called Read
 unfolding wordsOf said isComment wordsFrom isBlank upTo names nameIn same callOf
 reading = refl
+
+-- ---- starts
+
+starts :
+    map line ("start bytes" ∷ "start packets" ∷ "start Bytes" ∷ "start packet" ∷ "start 1" ∷ "starts bytes" ∷ []) ≡
+    Called StartBytes ∷ Called StartPackets ∷ Wrong Measure ∷ Wrong Measure ∷ Wrong Measure ∷ Wrong UnknownCall ∷ []
+unfolding wordsOf said isComment wordsFrom isBlank upTo names nameIn same callOf withValue startOf
+starts = refl

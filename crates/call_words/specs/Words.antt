@@ -13,14 +13,14 @@ use Rattle.call_line.specs.Column.{digitsOf, more}
 use Rattle.call_line.specs.declared.Number.{Number}
 use Rattle.call_line.specs.declared.Number.the-variants.{Value, Wrong as Number·Wrong}
 use Rattle.call_line.specs.declared.Call.{Call}
-use Rattle.call_line.specs.declared.Call.the-variants.{Estimate, Acknowledged, AlrOn, AlrOff, CapacityIs, CapacityNone, Packet, Report, Read}
+use Rattle.call_line.specs.declared.Call.the-variants.{Estimate, Acknowledged, AlrOn, AlrOff, CapacityIs, CapacityNone, Packet, Report, Read, StartBytes, StartPackets}
 use Rattle.call_words.specs.declared.Why.{Why}
-use Rattle.call_words.specs.declared.Why.the-variants.{UnknownCall, WordCount, Rate, Time, Size, Outcome}
+use Rattle.call_words.specs.declared.Why.the-variants.{UnknownCall, WordCount, Rate, Time, Size, Outcome, Measure}
 use Rattle.call_words.specs.declared.Words.{Words}
 use Rattle.call_words.specs.declared.Words.the-variants.{Call as Called, Nothing, Wrong}
 use Rattle.call_words.specs.declared.Valued.{Valued}
 use Rattle.call_words.specs.declared.Valued.the-variants.{Estimate as Valued·Estimate, Acknowledged as Valued·Acknowledged}
-use Rattle.call_words.specs.declared.Valued.the-variants.{Alr as Valued·Alr, Capacity as Valued·Capacity, Report as Valued·Report}
+use Rattle.call_words.specs.declared.Valued.the-variants.{Alr as Valued·Alr, Capacity as Valued·Capacity, Report as Valued·Report, Start as Valued·Start}
 use Rattle.call_words.specs.declared.Name.{Name}
 use Rattle.call_words.specs.declared.Name.the-variants.{WithValue, Packet as Name·Packet, Read as Name·Read, Unknown}
 
@@ -142,12 +142,19 @@ alrOf word = cond (same word (ascii "off")) (Called AlrOff) (given AlrOn Time (t
 unfoldable pub capacityOf : List ℕ → Words
 capacityOf word = cond (same word (ascii "none")) (Called CapacityNone) (given CapacityIs Rate (rateOf word))
 
+-- "B being 0 for bytes and 1 for packets" (Q-7)
+unfoldable pub startOf : List ℕ → Words
+startOf word =
+    cond (same word (ascii "bytes")) (Called StartBytes)
+    (cond (same word (ascii "packets")) (Called StartPackets) (Wrong Measure))
+
 unfoldable pub withValue : Valued → List ℕ → Words
 withValue Valued·Estimate word = given Estimate Rate (rateOf word)
 withValue Valued·Acknowledged word = given Acknowledged Rate (rateOf word)
 withValue Valued·Alr word = alrOf word
 withValue Valued·Capacity word = capacityOf word
 withValue Valued·Report word = given Report Rate (rateOf word)
+withValue Valued·Start word = startOf word
 
 unfoldable pub withOutcome : ℕ → ℕ → List ℕ → Words
 withOutcome time size word =
@@ -172,6 +179,7 @@ names =
     ∷ (ascii "packet", Name·Packet)
     ∷ (ascii "report", WithValue Valued·Report)
     ∷ (ascii "read", Name·Read)
+    ∷ (ascii "start", WithValue Valued·Start)
     ∷ []
 
 unfoldable pub nameIn : List (List ℕ × Name) → List ℕ → Name

@@ -22,7 +22,7 @@ const NANOS: u64 = 1_000_000_000;
 const MOST_PLACES: usize = 9;
 
 // What is wrong with a line: the first of these, and of the values the first from the left. The
-// outcome is neither `lost` nor `arrived`.
+// outcome is neither `lost` nor `arrived`, the measure neither `bytes` nor `packets`.
 pub enum Why {
     UnknownCall,
     WordCount,
@@ -30,6 +30,7 @@ pub enum Why {
     Time,
     Size,
     Outcome,
+    Measure,
 }
 
 // What a line says: nothing where it has no words, or a comment.
@@ -46,6 +47,7 @@ enum Valued {
     Alr,
     Capacity,
     Report,
+    Start,
 }
 
 enum Name {
@@ -176,6 +178,9 @@ fn name_of(word: &[u8]) -> Name
     }
     if is_word(word, b"read") {
         return Name::Read;
+    }
+    if is_word(word, b"start") {
+        return Name::WithValue(Valued::Start);
     }
     Name::Unknown
 }
@@ -341,6 +346,19 @@ fn capacity(value: &[u8]) -> Words
     }
 }
 
+// What the ratio of the controller that is started counts.
+fn start(value: &[u8]) -> Words
+    ensures { λ r. ⌜ r ≡ W.startOf (now (value .entry)) ⌝ }
+{
+    if is_word(value, b"bytes") {
+        return Words::Call(Call::StartBytes);
+    }
+    if is_word(value, b"packets") {
+        return Words::Call(Call::StartPackets);
+    }
+    Words::Wrong(Why::Measure)
+}
+
 fn with_value(name: Valued, value: &[u8]) -> Words
     ensures { λ r. ⌜ r ≡ W.withValue name (now (value .entry)) ⌝ }
 {
@@ -359,6 +377,7 @@ fn with_value(name: Valued, value: &[u8]) -> Words
             Number::Value(bits) => Words::Call(Call::Report(bits)),
             Number::Wrong => Words::Wrong(Why::Rate),
         },
+        Valued::Start => start(value),
     }
 }
 

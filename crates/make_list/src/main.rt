@@ -149,11 +149,11 @@ fn complain_of_words(number: u64, why: Why) {
     match why {
         Why::UnknownCall => complain(
             number,
-            b"there is no such call: estimate, acknowledged, alr, capacity, packet, report or read",
+            b"there is no such call: estimate, acknowledged, alr, capacity, packet, report, read or start",
         ),
         Why::WordCount => complain(
             number,
-            b"the wrong number of words: a rate follows, or SECONDS (alr), or SECONDS BYTES lost or arrived (packet), or nothing (read)",
+            b"the wrong number of words: a rate follows, or SECONDS (alr), or SECONDS BYTES lost or arrived (packet), or bytes or packets (start), or nothing (read)",
         ),
         Why::Rate => complain(
             number,
@@ -170,6 +170,10 @@ fn complain_of_words(number: u64, why: Why) {
         Why::Outcome => complain(
             number,
             b"a packet that is neither lost nor arrived: its last word is one of the two",
+        ),
+        Why::Measure => complain(
+            number,
+            b"a start by neither bytes nor packets: its last word is one of the two",
         ),
     }
 }

@@ -30,6 +30,9 @@ packet-requires c κs = search needs
 report-requires : tie.Need-report-requires
 report-requires c κs = search needs
 
+start-requires : tie.Need-start-requires
+start-requires c κs = search needs
+
 returns : tie.Need-returns
 unfolding callOf
 returns c = rw (c .before .before .match .keys1, ← c .before .rate-refusal .ensures) (c .unless-refused .ensures)
@@ -59,9 +62,15 @@ unfolding callOf
 returns-7 c = rw (c .match .keys7)
 
 returns-8 : tie.Need-returns-8
-returns-8 c =
+unfolding callOf
+returns-8 c = rw (c .before .match .keys8) (c .start .ensures)
+
+returns-9 : tie.Need-returns-9
+returns-9 c =
     let r = c .match .rest in
-    sym (call-rest _ _ _ _ (r .0 .0 .0 .0 .0 .0 .1) (r .0 .0 .0 .0 .0 .1) (r .0 .0 .0 .0 .1) (r .0 .0 .0 .1) (r .0 .0 .1) (r .0 .1) (r .1))
+    sym
+    (call-rest _ _ _ _ (r .0 .0 .0 .0 .0 .0 .0 .1) (r .0 .0 .0 .0 .0 .0 .1) (r .0 .0 .0 .0 .0 .1) (r .0 .0 .0 .0 .1) (r .0 .0 .0 .1) (r .0 .0 .1)
+    (r .0 .1) (r .1))
 
 pub call-of-spec : {M : Type 1} → statement M
 call-of-spec =
@@ -75,6 +84,7 @@ call-of-spec =
     capacity-requires
     packet-requires
     report-requires
+    start-requires
     returns
     returns-2
     returns-3
@@ -82,4 +92,5 @@ call-of-spec =
     returns-5
     returns-6
     returns-7
-    returns-8)
+    returns-8
+    returns-9)

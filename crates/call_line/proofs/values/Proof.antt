@@ -38,6 +38,12 @@ enum-known-call-6 c = search needs
 enum-told-3 : tie.Need-enum-told-3
 enum-told-3 c = search needs
 
+enum-told-4 : tie.Need-enum-told-4
+enum-told-4 c = search needs
+
+enum-told-5 : tie.Need-enum-told-5
+enum-told-5 c = search needs
+
 returns : tie.Need-returns
 unfolding valuesOf
 returns c = sym (ap valuesOf (c .before .call .given .1))
@@ -74,6 +80,14 @@ returns-9 : tie.Need-returns-9
 unfolding valuesOf
 returns-9 c = sym (ap valuesOf (c .enum-told3 .given .1))
 
+returns-10 : tie.Need-returns-10
+unfolding valuesOf
+returns-10 c = sym (ap valuesOf (c .enum-told4 .given .1))
+
+returns-11 : tie.Need-returns-11
+unfolding valuesOf
+returns-11 c = sym (ap valuesOf (c .enum-told5 .given .1))
+
 pub values-spec : {M : Type 1} → statement M
 values-spec =
     tie.close
@@ -89,6 +103,8 @@ values-spec =
     cast-t12
     enum-known-call-6
     enum-told-3
+    enum-told-4
+    enum-told-5
     returns
     returns-2
     returns-3
@@ -97,4 +113,6 @@ values-spec =
     returns-6
     returns-7
     returns-8
-    returns-9)
+    returns-9
+    returns-10
+    returns-11)

@@ -12,14 +12,14 @@ control-call-requires c κs = search needs
 enum-told : tie.Need-enum-told
 enum-told c = search needs
 
-unchanged-requires : tie.Need-unchanged-requires
-unchanged-requires c κs = search needs
+answered-requires : tie.Need-answered-requires
+answered-requires c κs = search needs
 
 enum-told-2 : tie.Need-enum-told-2
 enum-told-2 c = search needs
 
-unchanged-requires-2 : tie.Need-unchanged-requires-2
-unchanged-requires-2 c κs = search needs
+answered-requires-2 : tie.Need-answered-requires-2
+answered-requires-2 c κs = search needs
 
 returns : tie.Need-returns
 unfolding lineControlled
@@ -27,11 +27,11 @@ returns c = rw (c .before .before .line .given .1) (c .control-call .ensures)
 
 returns-2 : tie.Need-returns-2
 unfolding lineControlled
-returns-2 c = rw (c .before .enum-told .given .1) (c .unchanged .ensures)
+returns-2 c = rw (c .before .enum-told .given .1) (c .answered .ensures)
 
 returns-3 : tie.Need-returns-3
 unfolding lineControlled
-returns-3 c = rw (c .before .enum-told2 .given .1) (c .unchanged2 .ensures)
+returns-3 c = rw (c .before .enum-told2 .given .1) (c .answered2 .ensures)
 
 pub control-spec : {M : Type 1} → statement M
 control-spec =
@@ -40,9 +40,9 @@ control-spec =
     enum-known-line
     control-call-requires
     enum-told
-    unchanged-requires
+    answered-requires
     enum-told-2
-    unchanged-requires-2
+    answered-requires-2
     returns
     returns-2
     returns-3)

@@ -60,14 +60,32 @@ report-requires c κs = search needs
 enum-told-3 : tie.Need-enum-told-3
 enum-told-3 c = search needs
 
-unchanged-requires : tie.Need-unchanged-requires
-unchanged-requires c κs = search needs
+answered-requires : tie.Need-answered-requires
+answered-requires c κs = search needs
 
 enum-told-4 : tie.Need-enum-told-4
 enum-told-4 c = search needs
 
-unchanged-requires-2 : tie.Need-unchanged-requires-2
-unchanged-requires-2 c κs = search needs
+answered-requires-2 : tie.Need-answered-requires-2
+answered-requires-2 c κs = search needs
+
+enum-told-5 : tie.Need-enum-told-5
+enum-told-5 c = search needs
+
+with-profile-requires : tie.Need-with-profile-requires
+with-profile-requires c κs = search needs
+
+answered-requires-3 : tie.Need-answered-requires-3
+answered-requires-3 c κs = search needs
+
+enum-told-6 : tie.Need-enum-told-6
+enum-told-6 c = search needs
+
+with-profile-requires-2 : tie.Need-with-profile-requires-2
+with-profile-requires-2 c κs = search needs
+
+answered-requires-4 : tie.Need-answered-requires-4
+answered-requires-4 c κs = search needs
 
 returns : tie.Need-returns
 unfolding callControlled
@@ -99,11 +117,19 @@ returns-7 c = rw (c .before .before .before .before .before .before .call5 .give
 
 returns-8 : tie.Need-returns-8
 unfolding callControlled
-returns-8 c = rw (c .before .enum-told3 .given .1) (c .unchanged .ensures)
+returns-8 c = rw (c .before .enum-told3 .given .1) (c .answered .ensures)
 
 returns-9 : tie.Need-returns-9
 unfolding callControlled
-returns-9 c = rw (c .before .enum-told4 .given .1) (c .unchanged2 .ensures)
+returns-9 c = rw (c .before .enum-told4 .given .1) (c .answered2 .ensures)
+
+returns-10 : tie.Need-returns-10
+unfolding callControlled
+returns-10 c = rw (c .before .before .enum-told5 .given .1, ← c .before .with-profile .ensures) (c .answered3 .ensures)
+
+returns-11 : tie.Need-returns-11
+unfolding callControlled
+returns-11 c = rw (c .before .before .enum-told6 .given .1, ← c .before .with-profile2 .ensures) (c .answered4 .ensures)
 
 pub control-call-spec : {M : Type 1} → statement M
 control-call-spec =
@@ -128,9 +154,15 @@ control-call-spec =
     rate-requires-4
     report-requires
     enum-told-3
-    unchanged-requires
+    answered-requires
     enum-told-4
-    unchanged-requires-2
+    answered-requires-2
+    enum-told-5
+    with-profile-requires
+    answered-requires-3
+    enum-told-6
+    with-profile-requires-2
+    answered-requires-4
     returns
     returns-2
     returns-3
@@ -139,4 +171,6 @@ control-call-spec =
     returns-6
     returns-7
     returns-8
-    returns-9)
+    returns-9
+    returns-10
+    returns-11)

@@ -58,6 +58,18 @@ enum-told-8 c = search needs
 calling-requires-7 : tie.Need-calling-requires-7
 calling-requires-7 c κs = search needs
 
+enum-told-9 : tie.Need-enum-told-9
+enum-told-9 c = search needs
+
+calling-requires-8 : tie.Need-calling-requires-8
+calling-requires-8 c κs = search needs
+
+enum-told-10 : tie.Need-enum-told-10
+enum-told-10 c = search needs
+
+calling-requires-9 : tie.Need-calling-requires-9
+calling-requires-9 c κs = search needs
+
 returns : tie.Need-returns
 unfolding callCalls callQueued
 returns c = rw (c .before .before .before .before .before .call .given .1) (c .queue-packet .ensures)
@@ -94,6 +106,14 @@ returns-9 : tie.Need-returns-9
 unfolding callCalls callQueued
 returns-9 c = rw (c .before .enum-told8 .given .1) (record { quiet = c .calling7 .ensures; times = refl; sizes = refl; flags = refl })
 
+returns-10 : tie.Need-returns-10
+unfolding callCalls callQueued
+returns-10 c = rw (c .before .enum-told9 .given .1) (record { quiet = c .calling8 .ensures; times = refl; sizes = refl; flags = refl })
+
+returns-11 : tie.Need-returns-11
+unfolding callCalls callQueued
+returns-11 c = rw (c .before .enum-told10 .given .1) (record { quiet = c .calling9 .ensures; times = refl; sizes = refl; flags = refl })
+
 pub quiet-call-spec : {M : Type 1} → statement M
 quiet-call-spec =
     tie.close
@@ -116,6 +136,10 @@ quiet-call-spec =
     calling-requires-6
     enum-told-8
     calling-requires-7
+    enum-told-9
+    calling-requires-8
+    enum-told-10
+    calling-requires-9
     returns
     returns-2
     returns-3
@@ -124,4 +148,6 @@ quiet-call-spec =
     returns-6
     returns-7
     returns-8
-    returns-9)
+    returns-9
+    returns-10
+    returns-11)

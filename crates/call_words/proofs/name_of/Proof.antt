@@ -63,6 +63,13 @@ left7 : (c : tie.Else7) → Left 7 (word7 c)
 unfolding names
 left7 c = left6 (c .before .before .before) ∙ not-first _ _ _ (sym (c .before .is-word7 .ensures) ∙ c .if7 .left)
 
+abbrev word8 : tie.Else8 → List ℕ
+word8 c = word7 (c .before .before .before)
+
+left8 : (c : tie.Else8) → Left 8 (word8 c)
+unfolding names
+left8 c = left7 (c .before .before .before) ∙ not-first _ _ _ (sym (c .before .is-word8 .ensures) ∙ c .if8 .left)
+
 -- ---- the needs
 
 slice-aggregate-is-word : tie.Need-slice-aggregate-is-word
@@ -135,9 +142,19 @@ returns-7 : tie.Need-returns-7
 unfolding names
 returns-7 c = sym (left6 (c .before .before .before) ∙ first _ _ _ (sym (c .before .is-word7 .ensures) ∙ c .if7 .taken))
 
+slice-aggregate-is-word-8 : tie.Need-slice-aggregate-is-word-8
+slice-aggregate-is-word-8 c = search needs
+
+is-word-requires-8 : tie.Need-is-word-requires-8
+is-word-requires-8 c κs = search needs
+
 returns-8 : tie.Need-returns-8
+unfolding names
+returns-8 c = sym (left7 (c .before .before .before) ∙ first _ _ _ (sym (c .before .is-word8 .ensures) ∙ c .if8 .taken))
+
+returns-9 : tie.Need-returns-9
 unfolding names nameIn
-returns-8 c = sym (left7 c)
+returns-9 c = sym (left8 c)
 
 pub name-of-spec : {M : Type 1} → statement M
 name-of-spec =
@@ -164,4 +181,7 @@ name-of-spec =
     slice-aggregate-is-word-7
     is-word-requires-7
     returns-7
-    returns-8)
+    slice-aggregate-is-word-8
+    is-word-requires-8
+    returns-8
+    returns-9)

@@ -52,6 +52,12 @@ enum-known-bits-3 c = search needs
 enum-told-8 : tie.Need-enum-told-8
 enum-told-8 c = search needs
 
+enum-told-9 : tie.Need-enum-told-9
+enum-told-9 c = search needs
+
+start-requires : tie.Need-start-requires
+start-requires c κs = search needs
+
 returns : tie.Need-returns
 unfolding withValue given
 returns c =
@@ -93,6 +99,10 @@ returns-8 : tie.Need-returns-8
 unfolding withValue given
 returns-8 c = rw (c .before .before .before .enum-told7 .given .1, ← c .before .before .read-rate3 .ensures, c .enum-told8 .given .1)
 
+returns-9 : tie.Need-returns-9
+unfolding withValue given
+returns-9 c = rw (c .before .enum-told9 .given .1, ← c .start .ensures)
+
 pub with-value-spec : {M : Type 1} → statement M
 with-value-spec =
     tie.close
@@ -113,6 +123,8 @@ with-value-spec =
     read-rate-requires-3
     enum-known-bits-3
     enum-told-8
+    enum-told-9
+    start-requires
     returns
     returns-2
     returns-3
@@ -120,4 +132,5 @@ with-value-spec =
     returns-5
     returns-6
     returns-7
-    returns-8)
+    returns-8
+    returns-9)
