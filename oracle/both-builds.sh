@@ -2,8 +2,8 @@
 # Usage: oracle/both-builds.sh LIST COMMAND..
 # Holds a program's answers to a call list to both builds of the oracle (request Q-5): before the line at
 # which the limit of rates first changed a result, inner ones too, to the published build (unlimited), from
-# that line on to the departed one (answer). Prints how many lines were on each side. Exit status 0 if every
-# byte agrees and the command ends with 0, 1 if not, 2 if the comparison cannot be made.
+# that line on to the departed one (answer). Prints how many lines were on each side, and of each profile. Exit
+# status 0 if every byte agrees and the command ends with 0, 1 if not, 2 if the comparison cannot be made.
 set -eu
 if [ $# -lt 2 ] || [ ! -f "$1" ] || [ ! -r "$1" ]; then
     sed -n '2s/^# Usage/usage/p' "$0" >&2
@@ -25,8 +25,9 @@ trap 'rm -rf "$work"' EXIT
 {
     "$unlimited" <"$list" >"$work/unlimited" &&
         "$answer" <"$list" >"$work/answer" &&
-        leaves=$("$departs" <"$list")
+        "$departs" profiles <"$list" >"$work/leaves"
 } || exit 2
+read -r leaves by_bytes by_packets <"$work/leaves"
 code=0
 "$@" <"$list" >"$work/command" || code=$?
 case $code in
@@ -69,7 +70,7 @@ if [ "$leaves" = 0 ]; then
     cp "$work/unlimited" "$work/theirs"
     cp "$work/command" "$work/ours"
     same published 1
-    echo "$list: $lines lines as the published build, none as the departed one"
+    echo "$list: $lines lines as the published build, none as the departed one; $by_bytes by bytes, $by_packets by packets"
     exit
 fi
 before=$((leaves - 1))
@@ -79,4 +80,5 @@ same published 1
 tail -n +"$leaves" "$work/answer" >"$work/theirs"
 tail -n +"$leaves" "$work/command" >"$work/ours"
 same departed "$leaves"
-echo "$list: $before lines as the published build, $((lines - before)) from line $leaves on as the departed one"
+echo "$list: $before lines as the published build, $((lines - before)) from line $leaves on as the departed one;" \
+    "$by_bytes by bytes, $by_packets by packets"

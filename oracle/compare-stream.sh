@@ -2,8 +2,8 @@
 # Usage: oracle/compare-stream.sh NAME COMMAND..
 # Compares a program's answers with the oracle's on a list that is too long to store; 'generate kinds'
 # names them. Up to the line at which the list leaves demand 2 (request Q-5) the answers are those of the
-# published build, from there on those of the departed one. Exit status 0 if all bytes agree and all programs
-# end with 0.
+# published build, from there on those of the departed one. Prints how many lines there are of each profile.
+# Exit status 0 if all bytes agree and all programs end with 0.
 set -eu
 if [ $# -lt 2 ]; then
     sed -n '2s/^# Usage/usage/p' "$0" >&2
@@ -28,8 +28,8 @@ noted() {
     "$@" || code=$?
     echo "$code" >"$work/$of.status"
 }
-noted first_list "$generate" stream "$name" | noted departs "$departs" >"$work/leaves"
-leaves=$(cat "$work/leaves")
+noted first_list "$generate" stream "$name" | noted departs "$departs" profiles >"$work/leaves"
+read -r leaves by_bytes by_packets <"$work/leaves"
 
 theirs() {
     if [ "$leaves" = 0 ]; then
@@ -53,7 +53,8 @@ for status in "$work"/*.status; do
     fi
 done
 [ "$same" = 0 ] || exit 1
+echo "stream $name: no difference; $by_bytes lines by bytes, $by_packets by packets"
 case $leaves in
-0) echo "stream $name: no difference; every line as the published build" ;;
-*) echo "stream $name: no difference; $((leaves - 1)) lines as the published build, from line $leaves on as the departed one" ;;
+0) echo "stream $name: every line as the published build" ;;
+*) echo "stream $name: $((leaves - 1)) lines as the published build, from line $leaves on as the departed one" ;;
 esac

@@ -16,8 +16,8 @@ that edit rates, sizes, times or the limit.
 Usage: oracle/mutants.py --calls [WORDS]. The same as with a directory, on the stored calls of the
 controller as call lists. Line reader and queue are no part of these, so that their mutants survive.
 
-Usage: oracle/mutants.py --search TRIES WORDS. Prints, for each mutant whose name has WORDS, the first
-list of the generator's kind 'near' that tells it, among TRIES ties.
+Usage: oracle/mutants.py --search KIND TRIES WORDS. Prints, for each mutant whose name has WORDS, the first
+list of the generator's KIND, near or packets-near, that tells it, among TRIES ties.
 
 Usage: oracle/mutants.py --seeds KIND FIRST LAST [WORDS]. Prints, for each of these seeds of a kind of
 the generator, which mutants whose name has WORDS its list tells, and at the end those that none does:
@@ -38,6 +38,8 @@ ORACLE = ROOT / "oracle"
 OUT = ROOT / "target" / "oracle" / "mutants"
 SECONDS = 20
 SHOWN = 3
+# The kind of the stored calls that queues a packet unasked.
+UNASKED = 9
 RUSTC = ["rustc", "--edition", "2021", "-C", "opt-level=1", "-C", "overflow-checks=on", "-A", "warnings",
          "-C", "prefer-dynamic", "-C", "rpath"]
 
@@ -49,7 +51,7 @@ def read_mutants():
             mutants.append({"name": line[3:], "edits": [{"after": ""}], "unseen": None})
         elif line and not line.startswith("#"):
             key, _, value = line.partition(" ")
-            if key == "unseen":
+            if key in ("unseen", "both"):
                 mutants[-1][key] = value
                 continue
             assert key in ("file", "after", "old", "new"), line
@@ -57,14 +59,42 @@ def read_mutants():
             if "new" in edits[-1]:
                 edits.append({"file": edits[-1]["file"], "after": ""})
             edits[-1][key] = value
-    mutants += read_touches()
+    mutants = [of_profile for mutant in mutants for of_profile in profiles(mutant)] + read_touches()
     names = [mutant["name"] for mutant in mutants]
     assert len(set(names)) == len(names), "a name twice"
     return mutants
 
 
+# What a text by bytes is by packets (Q-7).
+BY_PACKETS = [
+    ("BY_BYTES", "!self.config.use_byte_loss_ratio"),
+    ("o.size.as_bytes_f64()", "o.num_packets as f64"),
+    ("o.lost_size.as_bytes_f64()", "o.num_lost_packets as f64"),
+    ("(o.lost_size.as_kb() / 1000.0)", "(o.num_lost_packets as f64)"),
+    ("((o.size - o.lost_size).as_kb() / 1000.0)", "(o.num_received_packets as f64)"),
+    ("o.size.as_kb() / 1000.0", "o.num_packets as f64"),
+    ("o.lost_size.as_kb()", "o.num_lost_packets as f64"),
+    ("(o.size - o.lost_size).as_kb()", "o.num_received_packets as f64"),
+]
+
+
+def profiles(mutant):
+    """The mutant, and where it has 'both' the same mutant by packets."""
+    if "both" not in mutant:
+        return [mutant]
+    [edit] = mutant["edits"]
+    by_packets = edit["new"]
+    for ours, theirs in BY_PACKETS:
+        by_packets = by_packets.replace(ours, theirs)
+    assert "o.size" not in by_packets and "o.lost_size" not in by_packets, mutant["name"]
+    by_bytes = edit["new"].replace("BY_BYTES", "self.config.use_byte_loss_ratio")
+    return [{**mutant, "edits": [{**edit, "new": by_bytes}]},
+            {**mutant, "edits": [{**edit, "new": by_packets}], "name": mutant["name"] + ", by packets",
+             "unseen": mutant["both"] or mutant["unseen"]}]
+
+
 def read_touches():
-    """Every call of oracle/touches.txt with every field, as mutants of one program."""
+    """Every call of oracle/touches.txt with every field, as mutants of one program; kind 8 keeps the field."""
     calls, fields, unseen = [], [], {}
     for line in (ORACLE / "touches.txt").read_text().splitlines():
         key, _, value = line.partition(" ")
@@ -72,38 +102,48 @@ def read_touches():
             calls.append({"name": value, "after": ""})
         elif key == "field":
             fields.append({"name": value})
-        elif key == "set":
-            fields[-1]["set"] = value
+        elif key in ("set", "keep"):
+            fields[-1][key] = value
         elif key == "unseen":
             pair, _, reason = value.partition(": ")
             unseen[pair] = reason
         elif line and not line.startswith("#"):
             assert key in ("file", "after", "old", "new"), line
             calls[-1][key] = value
-    pairs = [(call["name"], field["name"]) for call in calls for field in fields]
+    pairs = [(call["name"], field["name"]) for call in calls for field in fields
+             if call["name"] != KEEPS or "keep" in field]
     known = {f"{call}, {field}" for call, field in pairs} | {f"any call, {f['name']}" for f in fields}
     assert unseen.keys() <= known, unseen.keys() - known
-    return [{"name": f"touch: {call} clears {field}", "touch": (calls, fields),
+    return [{"name": f"touch: {call}{'' if call == KEEPS else ' clears'} {field}", "touch": (calls, fields),
              "chosen": f"{call}, {field}",
              "unseen": unseen.get(f"{call}, {field}", unseen.get(f"any call, {field}"))}
             for call, field in pairs]
 
 
+# The one call that has to clear every field; wrong is that it keeps one.
+KEEPS = "kind 8 keeps"
+
+
 def touching(calls, fields):
-    """The sources in which each call asks the environment whether it is to clear a field."""
+    """The sources in which each call asks the environment whether it is to clear a field, or to keep it."""
     texts = {}
     for call in calls:
         file = call["file"]
-        text = edited({**call, "new": call["new"].replace("TOUCH", f"touch(\"{call['name']}\");")},
-                      texts.get(file))
+        wrong = "keep(before);" if call["name"] == KEEPS else f"touch(\"{call['name']}\");"
+        text = edited({**call, "new": call["new"].replace("TOUCH", wrong)}, texts.get(file))
         texts[file] = text
-    cases = "".join(f"\"{field['name']}\" => {{ {field['set']} }}\n" for field in fields)
+    def cases(what):
+        return "".join(f"\"{field['name']}\" => {{ {field[what]} }}\n" for field in fields if what in field)
+
     texts["vendor/loss_controller.rs"] += (
-        "\nimpl LossController { pub fn touch(&mut self, call: &str) {\n"
+        "\nfn chosen(call: &str) -> &'static str {\n"
         "static CHOSEN: std::sync::OnceLock<String> = std::sync::OnceLock::new();\n"
         "let chosen = CHOSEN.get_or_init(|| std::env::var(\"TOUCH\").unwrap_or_default());\n"
-        "let Some((of, field)) = chosen.split_once(\", \") else { return };\n"
-        f"if of == call {{ match field {{\n{cases}_ => panic!() }} }} }} }}\n")
+        "chosen.strip_prefix(call).and_then(|rest| rest.strip_prefix(\", \")).unwrap_or(\"\") }\n"
+        "impl LossController {\n"
+        f"pub fn touch(&mut self, call: &str) {{ match chosen(call) {{ \"\" => {{}}\n{cases('set')}_ => panic!() }} }}\n"
+        f"pub fn keep(&mut self, before: Self) {{ match chosen(\"{KEEPS}\") {{ \"\" => {{}}\n{cases('keep')}_ => panic!() }} }}\n"
+        "}\n")
     return texts
 
 
@@ -239,12 +279,12 @@ def replay(name, crate, files):
     return 0
 
 
-def search(tries, words):
+def search(kind, tries, words):
     mutants = [mutant for mutant in read_mutants() if words in mutant["name"] and "touch" not in mutant]
     assert mutants, "no mutants"
 
     def found(mutant):
-        return subprocess.run([build(mutant, "tell"), tries], capture_output=True, text=True).stdout
+        return subprocess.run([build(mutant, "tell"), kind, tries], capture_output=True, text=True).stdout
 
     with concurrent.futures.ThreadPoolExecutor(os.cpu_count()) as pool:
         for mutant, seed in zip(mutants, pool.map(found, mutants)):
@@ -284,23 +324,20 @@ def seeds(kind, first, last, words=""):
 
 
 def stored_calls():
-    """A directory with the stored calls of the controller as call lists, and the oracle's answers.
+    """A directory with the stored calls of the controller as one call list, and the oracle's answers.
     The reports of packets that no list can queue are left out; they are refused."""
     directory = OUT.parent / "stored_calls"
     shutil.rmtree(directory, ignore_errors=True)
     directory.mkdir(parents=True)
-    lists, unasked = [], False
+    lines, unasked = [], False
     for line in (ROOT / "crates/replay_calls/stdin").read_text().splitlines():
         kind, a, b, c = (int(field, 16) for field in line.split())
-        if kind == 0:
-            lists.append([])
-        elif kind != 8 and not unasked:
-            lists[-1].append(f"{kind:2}{a:20}{b:20}{c:8}\n")
-        unasked = kind == 8
-    for number, lines in enumerate(lists):
-        calls = directory / f"{number}.calls"
-        calls.write_text("".join(lines))
-        answer(calls)
+        if kind != UNASKED and not unasked:
+            lines.append(f"{kind:2}{a:20}{b:20}{c:8}\n")
+        unasked = kind == UNASKED
+    calls = directory / "calls.calls"
+    calls.write_text("".join(lines))
+    answer(calls)
     return directory
 
 

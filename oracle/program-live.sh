@@ -1,10 +1,10 @@
 #!/bin/sh
 # Usage: oracle/program-live.sh [LISTS [SEED]]
-# Compares the program with the oracle: on fresh lists of every kind, damaged ones among them, on the
-# streamed lists that come to code 10, that have lines of both widths and that run to the limit of rates, on
-# the stored list and two that are no fresh ones, and on what a shell can hand it. What comes before the line
-# at which a list leaves demand 2 (request Q-5) is compared with the published build, the rest with the
-# departed one.
+# Compares the program with the oracle: on fresh lists of every kind and of both profiles (request Q-7), damaged
+# ones among them, on the streamed lists that come to code 10, that have lines of both widths, that run to the
+# limit of rates and that are the pads', on the stored list and three that are no fresh ones, and on what a shell
+# can hand it. What comes before the line at which a list leaves demand 2 (request Q-5) is compared with the
+# published build, the rest with the departed one.
 # Needs rustc, and asks 'rt check answer' for the program. With PROGRAM=FILE in the environment that program
 # is compared instead.
 set -eu
@@ -39,7 +39,7 @@ ends() {
 
 ends "fresh lists" 300 0 "$compare" --published "$unlimited" "$lists" "$seed" -- "$program"
 ends "the stored list" 60 0 oracle/both-builds.sh crates/answer/stdin "$program"
-for stream in bytes mixed infinity six-hours; do
+for stream in bytes mixed pads infinity six-hours; do
     ends "a streamed list" 300 0 oracle/compare-stream.sh "$stream" "$program"
 done
 
@@ -50,7 +50,7 @@ same() {
     cmp "$work/theirs" "$work/ours"
     echo "$1: no difference"
 }
-for kind in full wide-chunks; do
+for kind in full packets-full wide-chunks; do
     "$generate" "$kind" 1 >"$work/list"
     same "generate $kind 1"
 done

@@ -4,11 +4,11 @@
 Usage: oracle/program_speed.py [--beside FILE] [RUNS [LINES]]
 
 Prints the best time of RUNS (default 15) of each and its ratio to the oracle's, for LINES lines (default
-1,500,000) of the stream realistic, of the same calls in wide lines and in lines of both widths, and of the stream
-changing, whose every answer changes. FILE is another program to time beside the two, an earlier build for instance;
-one that reads narrow lines alone is timed on those. Exits with 1 where the program answers otherwise than the oracle,
-FILE does on narrow lines, or the program is the slower one on a realistic list of any width. Needs rustc, and asks
-'rt check answer' for the program.
+1,500,000) of the stream realistic, of the same calls in wide lines and in lines of both widths, of the stream pads, by
+packets, and of the stream changing, whose every answer changes. FILE is another program to time beside the two, an
+earlier build for instance; one that reads narrow lines alone, or no kind 8, is not timed on the others. Exits with 1
+where the program answers otherwise than the oracle, FILE does on narrow lines by bytes, or the program is the slower
+one on a realistic list of any width and profile. Needs rustc, and asks 'rt check answer' for the program.
 """
 
 import subprocess
@@ -18,9 +18,10 @@ import time
 from pathlib import Path
 
 ROOT = Path(__file__).resolve().parent.parent
-# The same calls in lines of 48 columns, of 50, and of either (Q-10).
-REALISTIC = ("realistic", "wide", "mixed")
-WITH_WIDE_LINES = ("wide", "mixed")
+# The same calls in lines of 48 columns, of 50, and of either (Q-10); the pads' (Q-7).
+REALISTIC = ("realistic", "wide", "mixed", "pads")
+# What an earlier build may not read: wide lines (Q-10), kind 8 (Q-7).
+NEWER = ("wide", "mixed", "pads")
 
 
 def built(name):
@@ -57,13 +58,13 @@ def seconds(program, path):
 
 
 def agreeing(stream, programs, path):
-    """The programs to time. One that answers otherwise than the oracle ends the run, but for FILE on wide lines."""
+    """The programs to time. One that answers otherwise than the oracle ends the run, but for FILE on newer lines."""
     expected = answers(programs["oracle"], path)
     agree = {}
     for name, program in programs.items():
         if answers(program, path) == expected:
             agree[name] = program
-        elif name == "beside" and stream in WITH_WIDE_LINES:
+        elif name == "beside" and stream in NEWER:
             print(f"{stream}: {name} answers otherwise than the oracle and is not timed")
         else:
             sys.exit(f"{stream}: {name} answers otherwise than the oracle")

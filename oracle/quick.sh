@@ -80,6 +80,50 @@ observe 250000001 100 | holds "100 of 1,000 bytes lost" "$two_megabits"
 observe 250000000 100 | holds "a span of 250,000,000 ns" "$none"
 echo "document 01's values: agree"
 
+# The values of Q-7: lost packets of twenty, of which the first report's is one, and unequal sizes.
+start() {
+    line 8 0 "$1" 0
+}
+lost_of_twenty() {
+    start 1
+    line 5 0 0 50
+    line 6 9218868437227405312 0 0
+    for place in $(seq 19); do
+        line 5 250000001 $((place <= $1)) 50
+    done
+    line 6 9218868437227405312 0 0
+    line 1 4831355200913801216 0 0
+}
+first_lost() {
+    start "$1"
+    line 5 0 1 1000
+    line 6 9218868437227405312 0 0
+    line 5 250000001 0 10
+    line 5 250000001 0 10
+    line 6 9218868437227405312 0 0
+    line 1 4831355200913801216 0 0
+}
+lost_of_twenty 1 | holds "1 of 20 packets lost" "$none"
+{
+    line 5 0 1 1000
+    lost_of_twenty 1
+} | holds "1 of 20 packets lost behind a packet that was queued" "$none"
+lost_of_twenty 2 | holds "2 of 20 packets lost" "$two_megabits"
+first_lost 0 | holds "1,000 of 1,020 bytes lost" ' 0 0 1 4682122489740682330 4576918229304087675'
+first_lost 1 | holds "1 of 3 packets lost" ' 0 0 1 4689807095706727605 4576918229304087675'
+# The smallest list on which the profiles part (docs/DIFFERENCES.md).
+smallest() {
+    start "$1"
+    line 1 4607182418800017408 0 0
+    line 5 0 0 0
+    line 6 4607182418800017408 0 0
+    line 5 250000001 1 1
+    line 6 4607182418800017408 0 0
+}
+smallest 0 | holds "the smallest list by bytes" ' 0 2 1 4606732058837280358 4604822145566388110'
+smallest 1 | holds "the smallest list by packets" ' 0 0 1 4607182418800017408 4562254508917369340'
+echo "the values by packets: agree"
+
 # The example in the other width, and mixed; lines that are 1 column off; the largest size and the next (Q-10).
 {
     wide_line 1 4696837146684686336 0 0
@@ -97,6 +141,21 @@ wide_line 5 0 2 10000000 | holds "10,000,000 bytes" "17 $fresh"
 wide_line 5 4000000000000000001 2 10000000 | holds "10,000,000 bytes too late" " 3 $fresh"
 wide_line 7 0 0 10000000 | holds "a read with a C" " 1 $fresh"
 echo "both widths: agree"
+
+# Kind 8: the queue is empty, 1 before 8, refused it changes nothing.
+kept() {
+    line 1 4696837146684686336 0 0
+    line 8 "$@"
+}
+rate='0 1 4696837146684686336 4576918229304087675'
+kept 0 0 0 | holds "a start by bytes" " 0 $fresh"
+kept 0 1 0 | holds "a start by packets" " 0 $fresh"
+kept 0 2 0 | holds "a start by 2" " 8 $rate"
+kept 1 2 0 | holds "a start by 2 with an A" " 1 $rate"
+kept 0 2 1 | holds "a start by 2 with a C" " 1 $rate"
+kept 0 1 1 | holds "a start with a C" " 1 $rate"
+line 9 0 0 0 | holds "kind 9" " 1 $fresh"
+echo "kind 8: agrees"
 
 # The same calls in lines of 48 columns, of 50, and of either.
 for stream in realistic wide mixed; do
@@ -226,6 +285,10 @@ fails() {
 }
 "$compare" 500 1 -- "$answer"
 fails "the comparison" "$compare" 500 1 -- sed 's/1$/2/'
+# Programs that count bytes, or packets, whatever kind 8 says.
+for turned in 's/^\( 8 *0 *\)1\( *0\)$/\10\2/' 's/^\( 8 *0 *\)0\( *0\)$/\11\2/'; do
+    fails "the comparison of profiles" "$compare" 500 1 -- sh -c "LC_ALL=C sed '$turned' | $answer"
+done
 "$compare" --published "$unlimited" 500 1 -- "$answer"
 fails "the comparison with the published build" "$compare" --published "$unlimited" 500 1 -- sed 's/1$/2/'
 fails "the comparison with the departed build" "$compare" --published "$unlimited" 500 1 -- "$unlimited"

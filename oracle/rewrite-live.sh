@@ -49,10 +49,15 @@ same() {
     fi
     echo "$1: no difference"
 }
-for kind in $("$generate" kinds | sed '/^stream /d; s/ .*//'); do
+for kind in $("$generate" kinds | sed '/^stream /d; /^packets-KIND/d; s/ .*//'); do
     "$generate" "$kind" "$seed" >"$work/list"
     same "generate $kind $seed"
 done
+# Lines of kind 8, refused ones among them.
+for place in $(seq 100); do
+    "$generate" pads $((seed + place))
+done >"$work/list"
+same "100 pads lists end to end"
 for kind in damaged mixed; do
     for place in $(seq 100); do
         "$generate" "$kind" $((seed + place))

@@ -1,6 +1,6 @@
 //! The line of a call: its 50 columns, written from the call alone.
 
-use crate::line::{Call, Code};
+use crate::line::{Call, Code, Profile};
 use crate::stream::Reply;
 
 /// A line anew: of an accepted one what its call is written as, of a refused one the number alone.
@@ -27,6 +27,8 @@ fn text(call: &Call) -> String {
         Call::Queue(packet) => (5, packet.time, u64::from(packet.lost), packet.bytes),
         Call::Report(bits) => (6, bits, 0, 0),
         Call::Read => (7, 0, 0, 0),
+        Call::Start(Profile::Bytes) => (8, 0, 0, 0),
+        Call::Start(Profile::Packets) => (8, 0, 1, 0),
     };
     format!("{kind:2}{a:20}{b:20}{c:8}")
 }

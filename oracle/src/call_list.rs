@@ -4,7 +4,7 @@
 use super::loss_controller::{LossController, LossControllerState, PacketResult};
 use super::{Bitrate, DataSize, Instant};
 use crate::answer_line::Answer;
-use crate::line::{self, Call, Code, Packet};
+use crate::line::{self, Call, Code, Packet, Profile};
 
 const QUEUE_LENGTH: usize = 4_096;
 const HIGHEST_BYTES: u64 = 1_000_000_000_000;
@@ -69,10 +69,11 @@ impl Running {
     }
 }
 
-/// The two reads added by design, the loss ratio's bits and the count of observations, and the span
+/// The two reads added by design, the loss ratio's bits and the count of observations, the profile, and the span
 /// of the hold in ns.
 #[allow(dead_code)]
 pub struct Reads {
+    pub profile: Profile,
     pub ratio: u64,
     pub count: u64,
     pub hold: u64,
@@ -85,9 +86,14 @@ pub struct Program {
 }
 
 impl Program {
+    /// Without a kind 8 a list runs by bytes.
     pub fn new() -> Self {
+        Program::of(Profile::Bytes)
+    }
+
+    pub fn of(profile: Profile) -> Self {
         Program {
-            controller: LossController::new(),
+            controller: LossController::with_profile(profile),
             running: Running::default(),
             queue: Vec::with_capacity(QUEUE_LENGTH),
         }
@@ -111,8 +117,14 @@ impl Program {
     }
 
     #[allow(dead_code)]
+    pub fn profile(&self) -> Profile {
+        self.controller.profile()
+    }
+
+    #[allow(dead_code)]
     pub fn reads(&self) -> Reads {
         Reads {
+            profile: self.profile(),
             ratio: bits(self.controller.loss_ratio()),
             count: self.controller.observation_count(),
             hold: self.controller.hold(),
@@ -149,8 +161,16 @@ impl Program {
                 self.queue.clear();
             }
             Call::Read => {}
+            Call::Start(profile) => self.start(profile),
         }
         Ok(())
+    }
+
+    /// A fresh controller and an empty queue.
+    fn start(&mut self, profile: Profile) {
+        self.controller = LossController::with_profile(profile);
+        self.running = Running::default();
+        self.queue.clear();
     }
 
     /// The answer read from the controller as it is.

@@ -28,7 +28,7 @@ mod tie;
 
 use answer_line::Answer;
 use bwe::call_list::{Program, Reads};
-use line::Code;
+use line::{Code, Profile};
 use random::Random;
 use tie::Line;
 
@@ -60,23 +60,41 @@ const WIDE_LISTS: &[(&str, &[Range<u64>])] = &[
 /// The same for lists about the limit of rates.
 const LIMIT_LISTS: &[(&str, &[Range<u64>])] = &[("limit", &[63..64, 78..79, 80..81])];
 
+/// The same for controllers by packets, and for both profiles in one list.
+const PACKET_LISTS: &[(&str, &[Range<u64>])] = &[
+    ("packets-single", &[1..5]),
+    ("packets-sparse", &[28..29]),
+    ("packets-hold", &[1..3]),
+    ("packets-wild", &[1..3]),
+    ("packets-small", &[1..3]),
+    ("packets-corners", &[32..33]),
+    ("packets-ties", &[1..2, 3..4, 64..65]),
+    ("packets-targets", &[0..3, 6..7]),
+    ("packets-argument", &[12..13]),
+    ("packets-asides", &[44..45, 46..47]),
+    ("packets-frames", &[1..2]),
+    ("packets-wide-asides", &[39..40]),
+    ("packets-limit", &[63..64]),
+    ("pads", &[1..4]),
+    ("start-asides", &[13..15, 18..19, 20..21]),
+];
+
 /// A list of `examples/` on which the Rust's grouping of the bias publishes another rate.
 const GROUPING: &[u8] = include_bytes!("../../examples/grouping_keeps_8200_bit.txt");
 
 /// The seed of the refused calls that are put between the generator's.
 const SEED: u64 = 9;
 
-/// A fresh controller and an empty queue.
-const FRESH: u64 = 0;
 const ESTIMATE: u64 = 1;
 const ACKNOWLEDGED: u64 = 2;
 const ALR: u64 = 3;
 const CAPACITY: u64 = 4;
 const QUEUE: u64 = 5;
 const REPORT: u64 = 6;
-const READ: u64 = 7;
+/// A fresh controller and an empty queue, by bytes if B is 0.
+const START: u64 = 8;
 /// A packet that is queued unasked, so that only its report can refuse it.
-const UNASKED: u64 = 8;
+const UNASKED: u64 = 9;
 
 const LONGEST_HOLD: u64 = 60_000_000_000;
 
@@ -93,14 +111,19 @@ impl Oracle {
 
     fn answer(&mut self, call: Line) -> Answer {
         match call[0] {
-            FRESH => {
-                *self = Oracle::new();
-                self.listed([READ, 0, 0, 0])
-            }
+            START => self.start(call),
             REPORT => self.report(call),
             UNASKED => self.queue_unasked(call),
             _ => self.listed(call),
         }
+    }
+
+    fn start(&mut self, call: Line) -> Answer {
+        let answer = self.listed(call);
+        if answer.refusal == 0 {
+            self.refused = 0;
+        }
+        answer
     }
 
     /// A call of a list.
@@ -153,17 +176,19 @@ fn sequences() -> Vec<Vec<Line>> {
     for list in lists(WIDE_LISTS) {
         all.push(sequence(&list, &mut random, (3, refused_among_frames)));
     }
-    all.push(large_sums());
-    for list in lists(LIMIT_LISTS) {
+    all.push(large_sums(Profile::Bytes));
+    for list in [lists(LIMIT_LISTS), lists(PACKET_LISTS)].concat() {
         all.push(sequence(&list, &mut random, (11, refused)));
     }
+    all.push(large_sums(Profile::Packets));
     all
 }
 
 /// Frames whose bytes, and lost bytes, pass 2^32 within a report.
-fn large_sums() -> Vec<Line> {
+fn large_sums(profile: Profile) -> Vec<Line> {
     let rate = 1e9_f64.to_bits();
-    let mut calls = vec![[FRESH, 0, 0, 0], [ESTIMATE, rate, 0, 0]];
+    let b = (profile == Profile::Packets).into();
+    let mut calls = vec![[START, 0, b, 0], [ESTIMATE, rate, 0, 0]];
     for (seconds, lost) in [(0, 1), (0, 0), (1, 0), (2, 1)] {
         calls.extend([[QUEUE, seconds * 1_000_000_000, lost, line::LARGEST_SIZE]; 450]);
         calls.push([REPORT, rate, 0, 0]);
@@ -177,7 +202,7 @@ type Refused = (u64, fn(&mut Random, &mut Vec<Line>));
 /// The calls of a list that are in shape, behind a fresh controller; after some of the reports, where
 /// the queue is empty, a call that is refused.
 fn sequence(list: &[u8], random: &mut Random, (every, refused): Refused) -> Vec<Line> {
-    let mut calls = vec![[FRESH, 0, 0, 0]];
+    let mut calls = vec![[START, 0, 0, 0]];
     for line in list.split(|&byte| byte == b'\n') {
         if line::read(line) == Err(line::NOT_IN_SHAPE) {
             continue;
@@ -286,6 +311,8 @@ const CODES: usize = line::SIZE as usize + 1;
 #[derive(Default)]
 struct Counts {
     calls: u64,
+    by_packets: u64,
+    starts: u64,
     observations: u64,
     refusals: [u64; CODES],
     refused_reports: [u64; CODES],
@@ -300,6 +327,8 @@ struct Counts {
 impl Counts {
     fn add(&mut self, call: Line, answer: &Answer, before: &Reads, after: &Reads) {
         self.calls += 1;
+        self.by_packets += u64::from(after.profile == Profile::Packets);
+        self.starts += u64::from(call[0] == START && answer.refusal == 0);
         self.observations += after.count.saturating_sub(before.count);
         self.refusals[usize::from(answer.refusal)] += 1;
         self.refused_reports[usize::from(answer.refusal)] += u64::from(call[0] == REPORT);
@@ -311,6 +340,7 @@ impl Counts {
 
     fn show(&self) {
         eprintln!("calls {}, observations completed {}", self.calls, self.observations);
+        eprintln!("by packets {}, controllers started {}", self.by_packets, self.starts);
         eprintln!("sequences {}, in {} the limit changed a result", self.sequences, self.left);
         for code in (1..CODES).filter(|&code| self.refusals[code] != 0) {
             let (all, reports) = (self.refusals[code], self.refused_reports[code]);

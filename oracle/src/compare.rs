@@ -32,6 +32,7 @@ mod stream;
 mod tie;
 
 use answer_line::ANSWER_LENGTH;
+use line::Profile;
 
 struct Settings {
     lists: u64,
@@ -45,6 +46,19 @@ struct Settings {
 struct Expected {
     text: Vec<u8>,
     before: Option<usize>,
+}
+
+/// How many of a list's lines a controller by packets answers.
+fn by_packets(list: &[u8]) -> usize {
+    let mut program = bwe::call_list::Program::new();
+    let mut is_by_packets = |line: &&[u8]| {
+        program.answer(line);
+        program.profile() == Profile::Packets
+    };
+    list.split_inclusive(|&byte| byte == b'\n')
+        .map(|line| line.strip_suffix(b"\n").unwrap_or(line))
+        .filter(|line| is_by_packets(line))
+        .count()
 }
 
 fn settings() -> Option<Settings> {
@@ -148,21 +162,24 @@ struct Counts {
     before: usize,
     after: usize,
     left: usize,
+    by_packets: usize,
 }
 
 impl Counts {
     fn add(&mut self, list: &[u8], before: Option<usize>) {
-        let lines = list.iter().filter(|&&byte| byte == b'\n').count();
+        let lines = list.split_inclusive(|&byte| byte == b'\n').count();
         let inside = before.unwrap_or(lines);
         self.before += inside;
         self.after += lines - inside;
         self.left += usize::from(before.is_some());
+        self.by_packets += by_packets(list);
     }
 
     fn show(&self, settings: &Settings) {
-        let Counts { before, after, left } = self;
-        let (lists, seed) = (settings.lists, settings.seed);
-        println!("{lists} lists from seed {seed}, {} lines: no difference", before + after);
+        let Counts { before, after, left, by_packets } = self;
+        let (lists, seed, lines) = (settings.lists, settings.seed, before + after);
+        println!("{lists} lists from seed {seed}, {lines} lines: no difference");
+        println!("{} lines by bytes, {by_packets} by packets", lines - by_packets);
         if settings.published.is_some() {
             println!("{before} lines as the published build, {after} as the departed one; {left} lists leave");
         }

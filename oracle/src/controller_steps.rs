@@ -24,10 +24,13 @@ mod replay_files;
 use bwe::loss_controller::LossController;
 use random::Random;
 
-const STATES: usize = 1_500;
+const STATES: usize = 2_000;
 /// States about the limit of rates (request Q-5), after the others.
 const LIMIT_STATES: usize = 100;
 const SEED: u64 = 6;
+
+/// A slot without an observation.
+const EMPTY_SLOT: [u64; 8] = [0, 0, 0, 0, 0, 0, 0, f64::NEG_INFINITY.to_bits()];
 
 /// 250 ms is the span that an observation must exceed, 300 ms the recovery window and the first hold.
 const STEPS_NS: &[u64] =
@@ -129,6 +132,24 @@ impl States {
         [size, lost]
     }
 
+    /// Packets, lost ones and received ones; now and then three that do not fit together, or of 2^53 and more.
+    fn counts(&mut self) -> [u64; 3] {
+        let packets = match self.random.below(12) {
+            0 => return self.random.pick(&[[20, 1, 19], [20, 2, 18], [5, 1, 4], [3, 3, 0], [0; 3]]),
+            1 => return [(); 3].map(|()| self.random.below(40)),
+            2 => return [(); 3].map(|()| self.random.bits() >> self.random.below(64)),
+            3 | 4 => self.random.below(1_000_000_001),
+            5..=7 => self.random.below(100_000),
+            _ => 1 + self.random.below(100),
+        };
+        let lost = match self.random.below(4) {
+            0 | 1 => 0,
+            2 => (packets as f64 * self.random.fraction() / 4.0) as u64,
+            _ => self.random.below(packets + 1),
+        };
+        [packets, lost, packets - lost]
+    }
+
     /// Fifteen slots, whose ids lie within the window in any order, and still do after the report.
     fn window(&mut self, count: u64, fields: &mut Vec<u64>) {
         let filled = self.random.below(16);
@@ -137,12 +158,12 @@ impl States {
             let oldest = if slot == count % 15 { 14 } else { 13 };
             let age = oldest.min((slot + turned) % 15);
             if age < count && self.random.below(15) < filled {
-                let sizes = self.sizes();
-                fields.extend([1, count - 1 - age]);
-                fields.extend(sizes);
+                let [size, lost_size] = self.sizes();
+                let [packets, lost, received] = self.counts();
+                fields.extend([1, count - 1 - age, packets, size, lost, lost_size, received]);
                 fields.push(self.rate());
             } else {
-                fields.extend([0, 0, 0, 0, f64::NEG_INFINITY.to_bits()]);
+                fields.extend(EMPTY_SLOT);
             }
         }
     }
@@ -160,7 +181,7 @@ impl States {
     fn state(&mut self) -> Vec<u64> {
         let highest = self.random.pick(&[4, 1_000, 1_000_000_000]);
         let count = self.random.below(highest);
-        let mut fields = vec![self.random.below(3), count];
+        let mut fields = vec![self.random.below(3), self.random.below(2), count];
         fields.extend(self.partial());
         fields.extend(self.time());
         fields.extend(self.option_rate());
@@ -173,11 +194,20 @@ impl States {
         fields.extend(self.time());
         fields.extend([self.rate(), self.rate(), self.rate(), self.random.below(2)]);
         fields.extend(self.option_rate());
-        let [size, lost] = self.sizes();
+        fields.extend(self.report());
         let later = self.random.pick(&[0, 300_000_000, 600_000_000]);
-        let time = self.instant().saturating_add(later);
-        fields.extend([lost % 200_000_000_000, size % 200_000_000_000, time]);
+        fields.push(self.instant().saturating_add(later));
         fields
+    }
+
+    /// Lost packets and received ones, of which there are some, and the bytes of each.
+    fn report(&mut self) -> [u64; 4] {
+        let [received_size, lost_size] = self.sizes().map(|size| size % 200_000_000_000);
+        match (self.random.below(6), self.random.below(30)) {
+            (0, received) => [0, 1 + received, 0, received_size],
+            (lost, 0) => [lost, 0, lost_size, 0],
+            (lost, received) => [lost, received, lost_size, received_size],
+        }
     }
 }
 
@@ -202,13 +232,14 @@ fn states() -> Vec<Vec<u64>> {
 fn below_every_rate() -> Vec<u64> {
     const TIME: u64 = 60_000_000_000;
     const ABSENT: u64 = f64::INFINITY.to_bits();
-    let mut fields = vec![0, 1, 0, 0, 0, 0, 1, TIME, 0, 0];
-    fields.extend([0, 0, 0, 0, f64::NEG_INFINITY.to_bits()].repeat(15));
+    let mut fields = vec![0, 1, 1, 0, 0, 0, 0, 1, TIME, 0, 0];
+    fields.extend(EMPTY_SLOT.repeat(15));
     fields.extend([0.01, 1e300].map(f64::to_bits));
     fields.extend([0, 0, 300_000_000, ABSENT]);
     fields.extend([1, 0, 0, 0, ABSENT]);
     fields.extend([-1.7e308, 1.7e308].map(f64::to_bits));
-    fields.extend([0, 0, 0, 0, 0, TIME]);
+    fields.extend([0, 0, 0]);
+    fields.extend([1, 1, 0, 0, TIME]);
     fields
 }
 

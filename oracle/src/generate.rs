@@ -30,6 +30,7 @@ fn main() -> io::Result<ExitCode> {
             for (name, what, _) in kinds::KINDS {
                 writeln!(out, "{name:8} {what}")?;
             }
+            writeln!(out, "packets-KIND: each of these above pads, behind a start by packets")?;
             for (name, what, _) in streams::STREAMS {
                 writeln!(out, "stream {name}: {what}")?;
             }

@@ -1,5 +1,6 @@
 //! The kinds of call lists that the generator makes, each from a seed.
 
+use crate::line::Profile;
 use crate::list::List;
 use crate::random::Random;
 
@@ -21,6 +22,8 @@ mod limit;
 mod link;
 #[path = "kinds/mixed.rs"]
 mod mixed;
+#[path = "kinds/pads.rs"]
+mod pads;
 #[path = "kinds/targets.rs"]
 mod targets;
 #[path = "kinds/ties.rs"]
@@ -71,18 +74,38 @@ pub const KINDS: &[(&str, &str, Make)] = &[
     ("wide-chunks", "wide lines, with line ends about every 65,536th byte", corners::wide_chunks),
     ("wide-asides", "packets that are too large, where every field counts", asides::wide_asides),
     ("limit", "rates about the limit of 10^15 bit/s, of either width", limit::limit),
+    ("pads", "four pads: controllers of both profiles, started in mid-list", pads::pads),
+    (
+        "start-asides",
+        "lines of kind 8, refused and taken, where every field counts",
+        asides::start_asides,
+    ),
 ];
 
-/// The first kind that knows wide lines.
+/// The first kind that knows wide lines, and the first that knows kind 8.
 const FIRST_WIDE: &str = "frames";
+const FIRST_STARTED: &str = "pads";
+
+/// Before the name of a kind that does not know kind 8: its list behind a line that starts a controller by
+/// packets, and played to that one.
+pub const BY_PACKETS: &str = "packets-";
 
 pub fn make(name: &str, seed: u64) -> Option<Vec<u8>> {
-    let place = KINDS.iter().position(|kind| kind.0 == name)?;
+    let is_before = |place: usize, first| KINDS[..=place].iter().all(|kind| kind.0 != first);
+    let kind = name.strip_prefix(BY_PACKETS).unwrap_or(name);
+    let place = KINDS.iter().position(|known| known.0 == kind)?;
     let mut random = Random::new(seed.wrapping_mul(1_000_003).wrapping_add(place as u64));
     let mut list = List::new();
-    list.small_c = KINDS[..=place].iter().all(|kind| kind.0 != FIRST_WIDE);
+    if kind == name {
+        list.small_c = is_before(place, FIRST_WIDE);
+        list.seven_kinds = is_before(place, FIRST_STARTED);
+    } else if is_before(place, FIRST_STARTED) {
+        list.start(Profile::Packets);
+    } else {
+        return None;
+    }
     // The first seeds of targets are their numbers; all seeds of near are numbers too.
-    match name {
+    match kind {
         "targets" if seed < targets::COUNT => targets::target(seed, &mut list),
         "near" => ties::near(seed, &mut list),
         _ => KINDS[place].2(&mut random, &mut list),
@@ -90,17 +113,28 @@ pub fn make(name: &str, seed: u64) -> Option<Vec<u8>> {
     Some(list.text)
 }
 
-/// Lists of all kinds in turn, a third of them with wide lines; the long and always equal ones and those that
-/// leave demand 2 come seldom.
-pub fn any(seed: u64) -> (&'static str, Vec<u8>) {
+/// A match of the four pads, behind a line that starts a controller by packets.
+pub fn match_of_pads(seed: u64) -> Vec<u8> {
+    let mut list = List::new();
+    list.start(Profile::Packets);
+    pads::match_of_pads(&mut Random::new(seed), &mut list);
+    list.text
+}
+
+/// Lists of all kinds in turn, each by bytes and then by packets, a third of them with wide lines; the long and
+/// always equal ones and those that leave demand 2 come seldom.
+pub fn any(seed: u64) -> (String, Vec<u8>) {
     let turn = [
         "dense", "sparse", "frames", "hold", "wild", "mixed", "ties", "small", "frames", "sparse",
-        "corners", "mixed", "ties", "damaged", "frames", "hold", "targets", "mixed",
+        "corners", "mixed", "ties", "damaged", "frames", "hold", "targets", "mixed", "pads",
     ];
-    let name = match seed % 100 {
+    let kind = match seed / 2 % 100 {
         99 => "queue",
         24 | 49 | 74 | 98 => "limit",
         other => turn[other as usize % turn.len()],
     };
-    (name, make(name, seed).expect("a kind's name"))
+    let by_packets = seed % 2 == 1 && kind != FIRST_STARTED;
+    let name = if by_packets { BY_PACKETS.to_string() + kind } else { kind.to_string() };
+    let list = make(&name, seed).expect("a kind's name");
+    (name, list)
 }

@@ -27,6 +27,13 @@ pub struct Packet {
     pub lost: bool,
 }
 
+/// What a controller counts, fixed when it is made.
+#[derive(Debug, Clone, Copy, PartialEq)]
+pub enum Profile {
+    Bytes,
+    Packets,
+}
+
 /// An accepted line. Rates are bits, since a list may tell NaNs apart.
 #[derive(Debug, Clone, Copy, PartialEq)]
 pub enum Call {
@@ -37,6 +44,7 @@ pub enum Call {
     Queue(Packet),
     Report(u64),
     Read,
+    Start(Profile),
 }
 
 pub fn read(line: &[u8]) -> Result<Call, Code> {
@@ -62,6 +70,7 @@ pub fn read(line: &[u8]) -> Result<Call, Code> {
         }
         5 => packet(a, b, c).map(Call::Queue),
         7 if a == 0 && b == 0 && c == 0 => Ok(Call::Read),
+        8 if a == 0 && c == 0 => profile(b).map(Call::Start),
         _ => Err(NOT_IN_SHAPE),
     }
 }
@@ -117,6 +126,11 @@ fn flag(b: u64) -> Result<bool, Code> {
         1 => Ok(true),
         _ => Err(FLAG),
     }
+}
+
+/// B of kind 8.
+fn profile(b: u64) -> Result<Profile, Code> {
+    Ok(if flag(b)? { Profile::Packets } else { Profile::Bytes })
 }
 
 fn rate(bits: u64) -> Result<(), Code> {

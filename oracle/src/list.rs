@@ -3,28 +3,34 @@
 
 use crate::answer_line::Answer;
 use crate::bwe::call_list::Program;
-use crate::line;
+use crate::line::{self, Profile};
 
 pub struct List {
     pub text: Vec<u8>,
     program: Program,
     pub last: Answer,
-    /// Added to every packet's time, for a list that follows another.
-    pub shift: u64,
     /// Whether lines are written with 50 columns.
     pub wide: bool,
     /// Plays a narrow line with a C above 65,535 as one out of shape, which it was when the kinds that only
     /// write narrow lines were made: their lists depend on what is published.
     pub small_c: bool,
+    /// Plays kind 8 as a kind out of the table, which it was when the kinds before `pads` were made.
+    pub seven_kinds: bool,
 }
 
 const LARGEST_SMALL_C: u64 = 65_535;
 
 impl List {
     pub fn new() -> Self {
-        let mut program = Program::new();
+        List::played_by(Profile::Bytes)
+    }
+
+    /// An empty list, for a controller of that profile.
+    pub fn played_by(profile: Profile) -> Self {
+        let mut program = Program::of(profile);
         let last = program.answer(b"");
-        List { text: vec![], program, last, shift: 0, wide: false, small_c: false }
+        let text = vec![];
+        List { text, program, last, wide: false, small_c: false, seven_kinds: false }
     }
 
     /// A line of any bytes.
@@ -32,8 +38,8 @@ impl List {
         self.text.extend_from_slice(line);
         self.text.push(b'\n');
         for line in line.split(|&byte| byte == b'\n') {
-            let played = if self.small_c && has_large_c(line) { b"" } else { line };
-            self.last = self.program.answer(played);
+            let is_former = self.small_c && has_large_c(line) || self.seven_kinds && is_start(line);
+            self.last = self.program.answer(if is_former { b"" } else { line });
         }
     }
 
@@ -59,7 +65,7 @@ impl List {
     }
 
     pub fn packet(&mut self, time: u64, lost: bool, bytes: u64) {
-        self.line(5, time + self.shift, lost.into(), bytes);
+        self.line(5, time, lost.into(), bytes);
     }
 
     pub fn report(&mut self, delay: f64) {
@@ -70,15 +76,31 @@ impl List {
         self.line(7, 0, 0, 0);
     }
 
+    /// A fresh controller and an empty queue.
+    pub fn start(&mut self, profile: Profile) {
+        self.line(8, 0, (profile == Profile::Packets).into(), 0);
+    }
+
+    pub fn profile(&self) -> Profile {
+        self.program.profile()
+    }
+
+    pub fn is_by_packets(&self) -> bool {
+        self.profile() == Profile::Packets
+    }
+
+    /// The first kind that is not in the table.
+    pub fn first_outside(&self) -> u64 {
+        if self.seven_kinds {
+            8
+        } else {
+            9
+        }
+    }
+
     /// The rate that the oracle publishes after the last line.
     pub fn published(&self) -> Option<f64> {
         (self.last.published == 1).then(|| f64::from_bits(self.last.rate))
-    }
-
-    /// How many observations have completed.
-    #[allow(dead_code)]
-    pub fn count(&self) -> u64 {
-        self.program.reads().count
     }
 
     pub fn is_decreasing(&self) -> bool {
@@ -88,6 +110,10 @@ impl List {
     pub fn is_increasing(&self) -> bool {
         self.last.state == 1
     }
+}
+
+fn is_start(line: &[u8]) -> bool {
+    matches!(line::columns(line), Some((8, ..)))
 }
 
 fn has_large_c(line: &[u8]) -> bool {

@@ -1,5 +1,6 @@
 //! Finds call lists on which the platform's logarithm and powers publish another rate or state than
-//! document 01's. Usage: near_ties COUNT SEED DIRECTORY.
+//! document 01's. Usage: near_ties [packets] COUNT SEED DIRECTORY. With the word 'packets' the lists start a
+//! controller by packets.
 //!
 //! A short list has one float that is bisected to where the choice between two candidates flips;
 //! the floats next to that place are tried with both logarithms. The list ends where the two part.
@@ -25,8 +26,9 @@ mod random;
 mod tie;
 
 use answer_line::{Answer, ANSWER_LENGTH};
+use line::Profile;
 use random::Random;
-use tie::{best, text, Line, Tie};
+use tie::{best, start, text, Line, Tie};
 
 const START: u64 = 1_000_000_000;
 const NEIGHBOURS: u64 = 40;
@@ -90,20 +92,21 @@ fn until_parted(lines: &[Line]) -> &[Line] {
     &lines[..parted.unwrap_or(lines.len())]
 }
 
-fn search(count: usize, seed: u64, directory: &str) -> io::Result<()> {
+fn search(profile: Profile, count: usize, seed: u64, directory: &str) -> io::Result<()> {
     let mut random = Random::new(seed);
     let (mut found, mut tries, mut places) = (0, 0_u64, 0_u64);
     while found < count {
         tries += 1;
-        let tie = Tie::random(&mut random, START);
-        for flip in tie.flips(|lines| best(&play!(bwe, lines).1)) {
+        let tie = Tie::random_of(profile, &mut random, START);
+        let whole = |lines: &[Line]| [start(profile), lines].concat();
+        for flip in tie.flips(|lines| best(&play!(bwe, whole(lines)).1)) {
             places += 1;
             let near = flip.saturating_sub(NEIGHBOURS)..flip + NEIGHBOURS;
-            let Some(a) = near.into_iter().find(|&a| both(&tie.with(a)).part()) else {
+            let Some(a) = near.into_iter().find(|&a| both(&whole(&tie.with(a))).part()) else {
                 continue;
             };
             found += 1;
-            let lines = tie.with(a);
+            let lines = whole(&tie.with(a));
             let lines = until_parted(&lines);
             let list: Vec<String> = lines.iter().map(|line| text(line) + "\n").collect();
             fs::write(format!("{directory}/near_tie_{found}.txt"), list.concat())?;
@@ -117,14 +120,18 @@ fn search(count: usize, seed: u64, directory: &str) -> io::Result<()> {
 
 fn main() -> io::Result<ExitCode> {
     let arguments: Vec<String> = env::args().skip(1).collect();
-    let [count, seed, directory] = arguments.as_slice() else {
-        eprintln!("usage: near_ties COUNT SEED DIRECTORY");
+    let (profile, arguments) = match arguments.as_slice() {
+        [word, rest @ ..] if word == "packets" => (Profile::Packets, rest),
+        all => (Profile::Bytes, all),
+    };
+    let [count, seed, directory] = arguments else {
+        eprintln!("usage: near_ties [packets] COUNT SEED DIRECTORY");
         return Ok(ExitCode::from(2));
     };
     let (Ok(count), Ok(seed)) = (count.parse(), seed.parse()) else {
         eprintln!("COUNT and SEED are numbers");
         return Ok(ExitCode::from(2));
     };
-    search(count, seed, directory)?;
+    search(profile, count, seed, directory)?;
     Ok(ExitCode::SUCCESS)
 }

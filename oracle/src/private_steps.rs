@@ -48,10 +48,16 @@ impl Fields<'_> {
     fn observation(&mut self) -> Observation {
         let is_initialized = self.number() == 1;
         let id = self.number();
-        let size = self.size();
-        let lost_size = self.size();
-        let sending_rate = self.rate();
-        Observation { size, lost_size, sending_rate, id, is_initialized, ..Observation::DUMMY }
+        Observation {
+            num_packets: self.number(),
+            size: self.size(),
+            num_lost_packets: self.number(),
+            lost_size: self.size(),
+            num_received_packets: self.number(),
+            sending_rate: self.rate(),
+            id,
+            is_initialized,
+        }
     }
 }
 
@@ -145,6 +151,7 @@ impl LossController {
             1 => LossControllerState::Increasing,
             _ => LossControllerState::Decreasing,
         };
+        controller.config.use_byte_loss_ratio = fields.number() == 1;
         controller.num_observations = fields.number();
         controller.partial_observation = PartialObservation {
             num_packets: fields.number(),
@@ -247,7 +254,10 @@ impl LossController {
     /// Whether a candidate, after its Newton step in the window after the report, has no objective.
     fn some_candidate_has_no_objective(&self, before: &Self) -> bool {
         let judged = LossController {
-            config: Config::default(),
+            config: Config {
+                use_byte_loss_ratio: self.config.use_byte_loss_ratio,
+                ..Config::default()
+            },
             partial_observation: PartialObservation::new(),
             observations: self.observations.clone(),
             temporal_weights: self.temporal_weights.clone(),
@@ -269,12 +279,16 @@ impl LossController {
             LossControllerState::Increasing => 1,
             LossControllerState::Decreasing => 2,
         });
+        answers.0.push(self.config.use_byte_loss_ratio.into());
         answers.0.push(self.num_observations);
         let partial = &self.partial_observation;
         answers.0.extend([partial.num_packets, partial.num_lost_packets]);
         answers.0.extend([partial.size, partial.lost_size].map(|size| size.as_bytes_i64() as u64));
         answers.time(self.last_send_time_most_recent_observation);
         answers.option_rate(self.cached_instant_upper_bound);
+        let Observation { num_packets, num_lost_packets, num_received_packets, .. } =
+            self.observations[slot];
+        answers.0.extend([num_packets, num_lost_packets, num_received_packets]);
         answers.rate(self.observations[slot].sending_rate);
         answers.parameters(self.current_estimate);
         answers.time(self.last_hold_info.timestamp);
@@ -292,11 +306,15 @@ fn has_logarithm(rate: Bitrate) -> bool {
     !rate.is_valid() || argument.is_normal() && argument > 0.0
 }
 
-/// Packets with the totals of a line: a lost one, if any is lost, and one that arrived.
+/// Packets with the totals of a line: those that are lost and those that arrived, of which the first have all
+/// the bytes.
 fn packets(fields: &mut Fields) -> Vec<Totals> {
-    let lost = fields.number();
-    let received = fields.number();
+    let [lost_packets, received_packets] = [fields.number(), fields.number()];
+    let [lost_size, received_size] = [fields.size(), fields.size()];
     let time = Instant(fields.number());
-    let packet = |bytes: u64, lost| Totals { size: DataSize::bytes(bytes as i64), lost, time };
-    vec![packet(lost, true), packet(received, false)]
+    let of = |count: u64, size: DataSize, lost| {
+        let size = move |place| if place == 0 { size } else { DataSize::ZERO };
+        (0..count).map(move |place| Totals { size: size(place), lost, time })
+    };
+    of(lost_packets, lost_size, true).chain(of(received_packets, received_size, false)).collect()
 }

@@ -1,10 +1,26 @@
-//! What the programs read from a controller beyond its published interface.
+//! What the programs read from a controller, and set, beyond its published interface.
 
 use super::{LossController, PacketResult};
 use crate::bandwidth::Bitrate;
+use crate::line::Profile;
 
 #[allow(dead_code)]
 impl LossController {
+    /// A fresh controller with the Rust's own setting, which nothing published gives another value.
+    pub fn with_profile(profile: Profile) -> Self {
+        let mut controller = LossController::new();
+        controller.config.use_byte_loss_ratio = profile == Profile::Bytes;
+        controller
+    }
+
+    pub fn profile(&self) -> Profile {
+        if self.config.use_byte_loss_ratio {
+            Profile::Bytes
+        } else {
+            Profile::Packets
+        }
+    }
+
     pub fn inherent_loss(&self) -> f64 {
         self.current_estimate.inherent_loss
     }

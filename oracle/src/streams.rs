@@ -20,6 +20,7 @@ pub const STREAMS: &[(&str, &str, Stream)] = &[
     ),
     ("six-hours", "six hours without loss and without a delay estimate (860,000 lines)", six_hours),
     ("realistic", "dense lists end to end, two million lines", realistic),
+    ("pads", "matches of the four pads by packets, each behind its start, two million lines", pads),
     ("wide", "the calls of realistic in wide lines", |out| realistic_in(out, widened)),
     ("mixed", "the same with each line's width at random", |out| realistic_in(out, either_width)),
     (
@@ -162,6 +163,19 @@ fn six_hours(out: &mut dyn Write) -> io::Result<()> {
 
 fn realistic(out: &mut dyn Write) -> io::Result<()> {
     realistic_in(out, |_, line| line.to_vec())
+}
+
+fn pads(out: &mut dyn Write) -> io::Result<()> {
+    let mut lines = 0;
+    for seed in 0.. {
+        let list = crate::kinds::match_of_pads(seed);
+        out.write_all(&list)?;
+        lines += list.len() / (NARROW + 1);
+        if lines >= 2_000_000 {
+            break;
+        }
+    }
+    Ok(())
 }
 
 /// What a line is written as.

@@ -1,5 +1,5 @@
-//! Finds lists of the kind near that tell a wrong port, which is the tree under ../wrong. Prints the
-//! seed of the first. Usage: tell TRIES.
+//! Finds lists of the kind near, or packets-near, that tell a wrong port, which is the tree under ../wrong. Prints
+//! the seed of the first. Usage: tell KIND TRIES.
 
 use std::env;
 use std::process::ExitCode;
@@ -22,7 +22,8 @@ mod tie;
 #[path = "../wrong/src/bwe.rs"]
 mod wrong;
 
-use tie::{best, text, Line, Tie};
+use line::Profile;
+use tie::{best, start, text, Line, Tie};
 
 const NEIGHBOURS: u64 = 100;
 
@@ -43,24 +44,35 @@ fn choice(lines: &[Line]) -> Option<usize> {
 }
 
 /// The first seed of a tie's number that tells.
-fn tells(number: u64) -> Option<u64> {
-    let tie = Tie::numbered(number);
-    let flip = tie.flip(choice)?;
+fn tells(profile: Profile, number: u64) -> Option<u64> {
+    let tie = Tie::numbered(profile, number);
+    let whole = |lines: &[Line]| [start(profile), lines].concat();
+    let flip = tie.flip(|lines| choice(&whole(lines)))?;
     let is_told = |near: &u64| {
-        let lines = tie.with(flip + near - NEIGHBOURS / 2);
+        let lines = whole(&tie.with(flip + near - NEIGHBOURS / 2));
         last!(bwe, lines) != last!(wrong, lines)
     };
     (0..NEIGHBOURS).find(is_told).map(|near| number * NEIGHBOURS + near)
 }
 
 fn main() -> ExitCode {
-    let Some(Ok(tries)) = env::args().nth(1).map(|tries| tries.parse()) else {
-        eprintln!("usage: tell TRIES");
+    let arguments: Vec<String> = env::args().skip(1).collect();
+    let arguments: Vec<&str> = arguments.iter().map(String::as_str).collect();
+    let (profile, tries) = match arguments.as_slice() {
+        ["near", tries] => (Profile::Bytes, tries.parse()),
+        ["packets-near", tries] => (Profile::Packets, tries.parse()),
+        _ => {
+            eprintln!("usage: tell near|packets-near TRIES");
+            return ExitCode::from(2);
+        }
+    };
+    let Ok(tries) = tries else {
+        eprintln!("TRIES is not a number");
         return ExitCode::from(2);
     };
-    match (1..=tries).find_map(tells) {
+    match (1..=tries).find_map(|number| tells(profile, number)) {
         Some(seed) => {
-            println!("near {seed}");
+            println!("{} {seed}", arguments[0]);
             ExitCode::SUCCESS
         }
         None => ExitCode::FAILURE,

@@ -47,6 +47,8 @@ const CAPACITY_NONE: u8 = 5;
 const PACKET: u8 = 6;
 const REPORT: u8 = 7;
 const READ: u8 = 8;
+const START_BYTES: u8 = 9;
+const START_PACKETS: u8 = 10;
 
 const SIGN: u64 = 1 << 63;
 const INFINITY: u64 = 0x7FF << 52;
@@ -64,7 +66,7 @@ struct Handed {
 
 impl Handed {
     fn random(random: &mut Random) -> Self {
-        // Four in thirteen are packets, which have most fields.
+        // Four in fifteen are packets, which have most fields.
         let variant = random.pick(&[
             ESTIMATE,
             ACKNOWLEDGED,
@@ -79,6 +81,8 @@ impl Handed {
             PACKET,
             REPORT,
             READ,
+            START_BYTES,
+            START_PACKETS,
         ]);
         let room = room(random);
         match variant {
@@ -105,6 +109,8 @@ impl Handed {
             CAPACITY_NONE => (4, 0),
             PACKET => (5, *lost),
             REPORT => (6, 0),
+            START_BYTES => (8, 0),
+            START_PACKETS => (8, 1),
             _ => (7, 0),
         };
         format!("{kind:2}{a:20}{b:20}{size:8}")

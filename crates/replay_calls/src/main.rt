@@ -33,7 +33,7 @@ fn main() {
     let mut times = [0u64; PLACES];
     let mut sizes: [PacketSize; PLACES] = [0; PLACES];
     let mut flags = [0u8; PLACES];
-    let mut answer = fresh();
+    let mut answer = fresh(LossController::new());
     // Nothing says that the input ends, so the loop counts down.
     let mut left: u64 = u64::MAX;
     while 0 < left {
@@ -72,19 +72,30 @@ fn answered(
 ) -> Answer {
     let kind = call.kind;
     match kind {
-        0 => fresh(),
         5 => queue(before, call, times, sizes, flags),
         6 => report(before, call, times, sizes, flags),
-        8 => queue_unasked(before, call, times, sizes, flags),
+        8 => start(before, call),
+        9 => queue_unasked(before, call, times, sizes, flags),
         _ => set(before, call),
     }
 }
 
-fn fresh() -> Answer {
+// Another controller and an empty queue.
+fn fresh(controller: LossController) -> Answer {
     Answer {
-        controller: LossController::new(),
+        controller,
         queued: 0,
         refusal: 0,
+    }
+}
+
+// By bytes or by packets
+fn start(before: Answer, call: Call) -> Answer {
+    let profile = call.b;
+    match profile {
+        0 => fresh(LossController::new()),
+        1 => fresh(LossController::with_profile(false)),
+        _ => refused(before, 8),
     }
 }
 

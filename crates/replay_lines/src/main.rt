@@ -60,7 +60,9 @@ fn call_of(variant: u64, number: u64, lost: u8, size: PacketSize) -> Call {
             size,
         },
         7 => Call::Report(number),
-        _ => Call::Read,
+        8 => Call::Read,
+        9 => Call::StartBytes,
+        _ => Call::StartPackets,
     }
 }
 

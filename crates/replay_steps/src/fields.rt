@@ -65,12 +65,14 @@ pub(crate) fn state_of(number: u64) -> LossControllerState {
 }
 
 pub(crate) fn read_observations() -> Observations {
+    let use_byte_loss_ratio = field() == 1;
     let num_observations = field();
     let partial_observation = read_partial();
     let last_send_time_most_recent_observation = read_time();
     let cached_instant_upper_bound = read_option();
     let observations = read_window();
     Observations {
+        use_byte_loss_ratio,
         partial_observation,
         last_send_time_most_recent_observation,
         num_observations,
@@ -111,19 +113,21 @@ fn read_window() -> [Observation; 15] {
     [a, b, c, d, e, f, g, h, i, j, k, l, m, n, o]
 }
 
-// The likelihood is of bytes, so the numbers of packets are nothing to it.
 fn read_observation() -> Observation {
     let is_initialized = field() == 1;
     let id = field();
+    let num_packets = field();
     let size = field();
+    let num_lost_packets = field();
     let lost_size = field();
+    let num_received_packets = field();
     let sending_rate = read_rate();
     Observation {
-        num_packets: 0,
+        num_packets,
         size,
-        num_lost_packets: 0,
+        num_lost_packets,
         lost_size,
-        num_received_packets: 0,
+        num_received_packets,
         sending_rate,
         id,
         is_initialized,
@@ -177,14 +181,16 @@ pub(crate) fn read_settings() -> Settings {
     }
 }
 
-// A lost packet and one that arrived.
+// What is lost and what arrived: packets, and then bytes.
 pub(crate) fn read_summary() -> PacketResultsSummary {
+    let num_lost_packets = field() % 0x1_0000_0000_0000;
+    let num_received_packets = field() % 0x1_0000_0000_0000;
     let lost_size = field() % 0x1_0000_0000_0000;
     let received_size = field() % 0x1_0000_0000_0000;
     let last_send_time = field();
     PacketResultsSummary {
-        num_packets: 2,
-        num_lost_packets: 1,
+        num_packets: num_lost_packets + num_received_packets,
+        num_lost_packets,
         total_size: lost_size + received_size,
         lost_size,
         last_send_time,

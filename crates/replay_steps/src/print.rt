@@ -12,6 +12,13 @@ pub(crate) fn number(n: u64) {
     io::write_all(STDOUT_FILENO, b" ");
 }
 
+pub(crate) fn print_bool(is_true: bool) {
+    if is_true {
+        return number(1);
+    }
+    number(0);
+}
+
 pub(crate) fn print_float(x: f64) {
     number(float::to_bits(x));
 }

@@ -1,6 +1,7 @@
 // The report, and the state after it.
 use crate::fields::Settings;
 use crate::print::number;
+use crate::print::print_bool;
 use crate::print::print_option;
 use crate::print::print_parameters;
 use crate::print::print_rate;
@@ -52,7 +53,8 @@ fn updated(added: AddedAnswer, estimator: Estimator, settings: Settings) -> Esti
     let ratio = observations.average_reported_loss_ratio();
     let ratio = ratio.value;
     let candidates = candidates::get_candidates(current, bounds(observations, estimator, settings));
-    let choice = candidates::choose(current, candidates, rows, ratio);
+    let use_bytes = observations.use_byte_loss_ratio;
+    let choice = candidates::choose(use_bytes, current, candidates, rows, ratio);
     let refusal = choice.refusal;
     if refusal != 0 {
         return EstimatorAnswer { estimator, refusal };
@@ -69,7 +71,7 @@ fn updated(added: AddedAnswer, estimator: Estimator, settings: Settings) -> Esti
     estimator.apply_best_candidate(choice.best, report)
 }
 
-// The state, with the sending rate in a slot of the window.
+// The state, with the packets and the sending rate in a slot of the window.
 fn print_state(observations: Observations, estimator: Estimator, slot: usize) -> bool {
     let state = estimator.state;
     number(state.number() as u64);
@@ -87,6 +89,7 @@ fn print_state(observations: Observations, estimator: Estimator, slot: usize) ->
 }
 
 fn print_observations(observations: Observations, slot: usize) {
+    print_bool(observations.use_byte_loss_ratio);
     number(observations.num_observations);
     let partial = observations.partial_observation;
     number(partial.num_packets);
@@ -99,6 +102,9 @@ fn print_observations(observations: Observations, slot: usize) {
     print_option(cached);
     let window = observations.observations;
     let observation = window[slot % 15];
+    number(observation.num_packets);
+    number(observation.num_lost_packets);
+    number(observation.num_received_packets);
     print_rate(observation.sending_rate);
 }
 

@@ -34,7 +34,8 @@ pub(crate) fn print_likelihood(observations: Observations, current: ChannelParam
     print_float(derivatives.first);
     print_float(derivatives.second);
     print_refusable(likelihood::get_high_bandwidth_bias(rate, ratio));
-    print_refusable(likelihood::get_objective(rows, ratio, current));
+    let use_byte_loss_ratio = observations.use_byte_loss_ratio;
+    print_refusable(likelihood::get_objective(use_byte_loss_ratio, rows, ratio, current));
     print_parameters(likelihood::newtons_method_update(rows, current));
 }
 

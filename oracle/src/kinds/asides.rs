@@ -2,7 +2,8 @@
 //! ALR on, a link capacity and an acknowledged rate that bound the candidates, loss that comes and goes.
 
 use super::link::{near, Link, MS};
-use crate::line::{LARGEST_SIZE, LATEST_TIME};
+use super::pads;
+use crate::line::{Profile, LARGEST_SIZE, LATEST_TIME};
 use crate::list::List;
 use crate::random::Random;
 
@@ -23,6 +24,48 @@ pub fn wide_asides(random: &mut Random, list: &mut List) {
     for _ in 0..60 {
         step(&mut link, random, list, 2, too_large);
     }
+}
+
+/// Lines of kind 8 that are refused, and some that are taken, behind which a part is given of what bounded the
+/// controller before.
+pub fn start_asides(random: &mut Random, list: &mut List) {
+    for _ in 0..3 {
+        list.start(random.pick(&[Profile::Bytes, Profile::Packets]));
+        let mut link = bounded(random, list);
+        for _ in 0..25 {
+            step(&mut link, random, list, 2, |_, random, list| {
+                if random.below(3) == 0 {
+                    pads::refused(random, list);
+                }
+            });
+        }
+        // Running sums and a queue that the start forgets.
+        link.packets(random, list, 100 * MS, 2);
+        list.report(link.delay);
+        link.packets(random, list, 10 * MS, 2);
+        started(&mut link, random, list);
+    }
+}
+
+/// Observations without loss on a fresh controller.
+fn started(link: &mut Link, random: &mut Random, list: &mut List) {
+    list.start(random.pick(&[Profile::Bytes, Profile::Packets]));
+    list.estimate(link.sending);
+    link.delay = link.sending * 8.0;
+    match random.below(3) {
+        0 => list.capacity(Some(link.sending * 1.01)),
+        1 => list.alr(Some(link.now)),
+        _ => {
+            list.acknowledged(link.sending);
+            link.delay = link.sending * 1.01;
+        }
+    }
+    link.loss = 0.0;
+    for _ in 0..4 {
+        link.packets(random, list, 300 * MS, 2);
+        list.report(link.delay);
+    }
+    list.report(f64::INFINITY);
 }
 
 /// A packet that finds the queue full, among observations as above and after a report that completes none.

@@ -222,7 +222,7 @@ fn codes(list: &mut List, _: u64) {
     for (a, b, c) in [(0, 0, 0), (1, 0, 0), (0, 1, 0), (0, 0, 1)] {
         list.line(7, a, b, c);
     }
-    for kind in [0, 8, 9, 10, 16, 70, 99] {
+    for kind in [0, list.first_outside(), 9, 10, 16, 70, 99] {
         list.line(kind, 0, 0, 0);
     }
     list.report(4e5);

@@ -25,7 +25,7 @@ const NUMBERS: [&str; 16] = [
 ];
 
 pub fn damaged(random: &mut Random, list: &mut List) {
-    let mut good = List::new();
+    let mut good = List::played_by(list.profile());
     link::sparse(random, &mut good);
     for line in good.text.split(|&byte| byte == b'\n').take(160) {
         if random.below(3) == 0 {

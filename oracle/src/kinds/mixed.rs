@@ -17,7 +17,7 @@ const TOO_LARGE: u64 = LARGEST_SIZE + 1;
 const MOST: u64 = 99_999_999;
 
 pub fn mixed(random: &mut Random, list: &mut List) {
-    let mut good = List::new();
+    let mut good = List::played_by(list.profile());
     frames::few(random, &mut good);
     let mut place = random.bits() as usize % edges(0).len();
     let mut time = 0;

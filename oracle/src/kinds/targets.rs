@@ -33,12 +33,19 @@ pub fn targets(random: &mut Random, list: &mut List) {
     }
 }
 
-/// Two reports: the reference time and an observation `span` later, `lost` of 20,000 bytes lost.
+/// Two reports: the reference time and an observation `span` later, `lost` of 20,000 bytes lost; by packets as
+/// many thousandths of 20, of which the first report's is one.
 fn observe(list: &mut List, start: u64, span: u64, lost: u64, delay: f64) {
-    list.packet(start, false, 0);
+    list.packet(start, list.is_by_packets() && lost == 20_000, 0);
     list.report(delay);
-    list.packet(start + span, false, 20_000 - lost);
-    list.packet(start + span, true, lost);
+    if list.is_by_packets() {
+        for place in 1..20 {
+            list.packet(start + span, place <= lost / 1_000, 1_000);
+        }
+    } else {
+        list.packet(start + span, false, 20_000 - lost);
+        list.packet(start + span, true, lost);
+    }
     list.report(delay);
 }
 

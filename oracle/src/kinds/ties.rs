@@ -26,7 +26,7 @@ pub fn ties(random: &mut Random, list: &mut List) {
 
 /// One such choice at `start`, if a random short list has one, and then an empty window.
 pub fn tie(random: &mut Random, list: &mut List, start: u64) {
-    let tie = Tie::random(random, start);
+    let tie = Tie::random_of(list.profile(), random, start);
     play(random, list, &tie);
 }
 
@@ -36,7 +36,7 @@ pub fn argument(random: &mut Random, list: &mut List) {
     let rate = random.pick(&ARGUMENTS) - 1.0;
     for turn in 0..ARGUMENT_TIES {
         let start = (1 + 20_000 * turn) * SECOND;
-        let tie = Tie::at_rate(random, rate, start);
+        let tie = Tie::at_rate(list.profile(), random, rate, start);
         play(random, list, &tie);
         // DelayBased again, for the next one.
         for time in [start + 10_000 * SECOND, start + 10_001 * SECOND] {
@@ -63,7 +63,7 @@ fn play(random: &mut Random, list: &mut List, tie: &Tie) {
 
 /// One choice about which one float decides; the seed says which list and which float.
 pub fn near(seed: u64, list: &mut List) {
-    for line in Tie::near(seed, |lines| choice(b"", lines)) {
+    for line in Tie::near(list.profile(), seed, |lines| choice(&list.text, lines)) {
         list.raw(text(&line).as_bytes());
     }
 }

@@ -9,6 +9,9 @@ Inv-loop times₀ sizes₀ flags₀ answer₀ left₀ times sizes flags answer l
 abbrev μ-loop : tie.MeasureT-loop
 μ-loop times₀ sizes₀ flags₀ answer₀ left₀ times sizes flags answer left = left
 
+new-requires : tie.Need-new-requires Inv-loop μ-loop
+new-requires c κs = search needs
+
 fresh-requires : tie.Need-fresh-requires Inv-loop μ-loop
 fresh-requires c κs = search needs
 
@@ -45,6 +48,7 @@ main-spec =
     (tie.spec
     Inv-loop
     μ-loop
+    new-requires
     fresh-requires
     loop-holds
     read-call-requires
