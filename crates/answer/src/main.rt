@@ -1,5 +1,7 @@
 // Answers a call list: standard input to standard output, chunk by chunk. What is answered is
 // `call_list`'s; here are the buffers and the calls of C.
+#![tactic(auto)]
+
 ghost use Rattle.std.specs.Prelude.{◌≤◌, ◌/◌, ◌≡◌, length};
 ghost use Rattle.call_list.specs.Feed.{row_width};
 ghost use Rattle.call_list.specs.Whole.{none};
@@ -15,7 +17,7 @@ const CHUNK: usize = 16_384;
 const ROOM: usize = CHUNK * ROW;
 
 // The last turn: what its read answered, whether its write took all, and what it left.
-#[derive(Drop)]
+#[derive(Clone, Copy)]
 struct Stop {
     got: isize,
     wrote: bool,

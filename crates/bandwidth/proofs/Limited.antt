@@ -43,6 +43,7 @@ limited_kept operands_finite r l = limited_by LimitedRate operands_finite r most
 -- what finite operands give, where it is not negative
 finite_limited : (operands_finite : Bool) (r : Bitrate) → T operands_finite → NotNegativeRate r → LimitedRate (limited operands_finite r)
 unfolding limited
+finite_limited false r t n = elim t [ ]
 finite_limited true r t n = tested LimitedRate (lt most_rate.bps r.bps) (λ h. most_limited) (λ h. record { forward = n; within = h })
 
 -- ---- a rate times a factor, a rate plus a rate

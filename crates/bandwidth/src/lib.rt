@@ -1,4 +1,6 @@
 // Bit rates and data sizes: crates/proto/src/bandwidth.rs. Operators are named functions.
+#![tactic(auto)]
+
 ghost use Rattle.std.specs.Prelude.{◌≡◌, ◌*◌, ◌<◌, true, false, ◌&&◌, pos, ◌*ℤ◌, int_le, int_lt};
 ghost use Rattle.std.specs.Float.Ieee.{eq, le, lt};
 ghost use Rattle.std.specs.Float.{inf};
@@ -14,26 +16,26 @@ use integer::{IntegerAnswer, Ordering, UsizeAnswer};
 
 // A data rate in bits per second. It is a float, so that repeated calculations keep their
 // fractions.
-#[derive(Drop)]
+#[derive(Clone, Copy)]
 pub struct Bitrate {
     pub bps: f64,
 }
 
 // A data size in bytes.
-#[derive(Drop)]
+#[derive(Clone, Copy)]
 pub struct DataSize {
     pub bytes: i64,
 }
 
 // A rate, and the number of the refusal: 0 if there is none, and rate 0.0 beside any other.
-#[derive(Drop)]
+#[derive(Clone, Copy)]
 pub struct RateAnswer {
     pub rate: Bitrate,
     pub refusal: u8,
 }
 
 // A size, and the number of the refusal: 0 if there is none, and size 0 beside any other.
-#[derive(Drop)]
+#[derive(Clone, Copy)]
 pub struct SizeAnswer {
     pub size: DataSize,
     pub refusal: u8,
@@ -47,7 +49,7 @@ impl RateAnswer {
 }
 
 // Option<Bitrate>
-#[derive(Drop)]
+#[derive(Clone, Copy)]
 pub enum OptionBitrate {
     Some(Bitrate),
     None,

@@ -1,5 +1,7 @@
 // A call list's lines and columns: what a line says, a call written as a line, and a number written in
 // a column.
+#![tactic(auto)]
+
 ghost use Rattle.std.specs.Prelude.{◌≡◌, ◌*◌, ◌/◌, ◌%◌, ◌≤◌, ◌<◌, length};
 ghost use Rattle.call_line.specs.Column.{is_digit, digits_of, column, total};
 ghost use Rattle.call_line.specs.Digits.{last_digits};
@@ -27,13 +29,13 @@ pub const NARROW_WIDTH: usize = NARROW[0] + NARROW[1] + NARROW[2] + NARROW[3];
 const MOST_DIGITS: usize = 20;
 
 // What a column says.
-#[derive(Drop)]
+#[derive(Clone, Copy)]
 pub enum Number {
     Value(u64),
     Wrong,
 }
 
-#[derive(Drop)]
+#[derive(Clone, Copy)]
 enum Fields {
     Read { kind: u64, a: u64, b: u64, c: u64 },
     Unreadable,
@@ -41,7 +43,7 @@ enum Fields {
 
 // Rates are the 64 bits of an f64, times are in ns, `lost` is 1 or 0. The last two start anew, with
 // loss counted in bytes or in packets.
-#[derive(Drop)]
+#[derive(Clone, Copy)]
 pub enum Call {
     Estimate(u64),
     Acknowledged(u64),
@@ -62,7 +64,7 @@ pub enum Call {
 
 // A call, or the number of the line's refusal. A report that is refused with another than 1 empties
 // the queue all the same.
-#[derive(Drop)]
+#[derive(Clone, Copy)]
 pub enum Line {
     Taken(Call),
     Refused(u8),
@@ -362,7 +364,7 @@ const POWERS: [u64; MOST_DIGITS] = [
 ];
 
 // How often a power was subtracted, and what is left.
-#[derive(Drop)]
+#[derive(Clone, Copy)]
 struct Subtracted {
     value: u8,
     rest: u64,

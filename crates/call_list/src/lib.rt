@@ -1,5 +1,7 @@
 // Call lists: each line of the input is answered by a line of 46 columns (document 01, "Call
 // lists"). The queue is three columns that the caller lends.
+#![tactic(auto)]
+
 ghost use Rattle.std.specs.Prelude.{◌≡◌, true, false, ◌+◌, ◌-◌, ◌*◌, ◌≤◌, ◌++◌, length, take, drop};
 ghost use Rattle.loss_controller.specs.Setters.{rate_of};
 ghost use Rattle.buffer.specs.Laid.{laid};
@@ -44,7 +46,7 @@ pub const ROW: usize = REFUSAL_WIDTH + TEXT;
 const FULL: u8 = 12;
 
 // What an answer reads of the controller
-#[derive(Drop)]
+#[derive(Clone, Copy)]
 struct Reading {
     state: u8,
     published: u8,
@@ -54,7 +56,7 @@ struct Reading {
 
 // What is between two lines of a chunk, but for the queue's columns. The reading is the
 // controller's, kept so that a line that leaves the controller alone does not touch it: it is large.
-#[derive(Drop)]
+#[derive(Clone, Copy)]
 struct Session {
     controller: LossController,
     reading: Reading,
@@ -62,13 +64,13 @@ struct Session {
 }
 
 // The five numbers of an answer
-#[derive(Drop)]
+#[derive(Clone, Copy)]
 struct Answer {
     refusal: u8,
     reading: Reading,
 }
 
-#[derive(Drop)]
+#[derive(Clone, Copy)]
 struct LineAnswer {
     session: Session,
     answer: Answer,
@@ -111,7 +113,7 @@ fn rate_bits(rate: OptionBitrate) -> u64
 // ---- the queue
 
 // What a line leaves without the controller. The refusal is that of a line that does not call it.
-#[derive(Drop)]
+#[derive(Clone, Copy)]
 struct Quiet {
     calls: bool,
     refusal: u8,
@@ -433,7 +435,7 @@ fn put_answer(answer: Answer, out: &mut [u8], w: usize)
 
 // The bytes of the line that are kept, how much of the chunk is read, and whether the line ended
 // there.
-#[derive(Drop)]
+#[derive(Clone, Copy)]
 pub struct Next {
     pub line: [u8; KEPT],
     pub len: usize,
@@ -474,7 +476,7 @@ pub fn read_on(line: [u8; KEPT], len: usize, chunk: &[u8], from: usize) -> Next
 // ---- lines that stand whole in a chunk
 
 // What is read of the chunk and written of the answers.
-#[derive(Drop)]
+#[derive(Clone, Copy)]
 struct Progress {
     session: Session,
     read: usize,
@@ -607,7 +609,7 @@ fn whole_lines(
 
 // What is kept from chunk to chunk: the line so far, of which no more is looked at than `KEPT`
 // bytes, the controller, and how many packets are queued.
-#[derive(Drop)]
+#[derive(Clone, Copy)]
 pub struct State {
     pub line: [u8; KEPT],
     pub len: usize,
@@ -615,7 +617,7 @@ pub struct State {
     pub queued: usize,
 }
 
-#[derive(Drop)]
+#[derive(Clone, Copy)]
 pub struct Fed {
     pub taken: bool,
     pub state: State,

@@ -1,7 +1,7 @@
 -- Worked examples of the definitions beside this file, which antt computes. They test the definitions; no proof cites them.
 use Prim.Native.String.{String}
-use Rattle.std.specs.Prelude.{◌≡◌, [], ◌∷◌, ◌++◌, map, replicate, to_bits, refl}
-use Rattle.std.specs.Float.Ieee.{of_int}
+use Rattle.std.specs.Prelude.{◌≡◌, [], ◌∷◌, ◌++◌, map, replicate, refl}
+use lib.Ieee.{of_int, to_bits}
 use Rattle.call_line.specs.Column.{is_digit, more, after_zero, digits_of}
 use Rattle.call_line.specs.declared.Call.TheVariants.{Estimate, Acknowledged, AlrOn, AlrOff, CapacityIs, CapacityNone, Packet, Report, Read, StartBytes, StartPackets}
 use Rattle.call_words.specs.declared.Why.TheVariants.{UnknownCall, WordCount, Rate, Time, Size, Outcome, Measure}

@@ -1,4 +1,6 @@
 // A call list by words: what a line of it says.
+#![tactic(auto)]
+
 ghost use Rattle.std.specs.Prelude.{◌≡◌, ◌+◌, ◌≤◌, length, drop, slice_index_or};
 ghost use Rattle.call_line.specs.Column.{more};
 ghost use Rattle.packets.specs.Summary.{largest_packet};
@@ -21,7 +23,7 @@ const MOST_PLACES: usize = 9;
 
 // What is wrong with a line: the first of these, and of the values the first from the left. The
 // outcome is neither `lost` nor `arrived`, the measure neither `bytes` nor `packets`.
-#[derive(Drop)]
+#[derive(Clone, Copy)]
 pub enum Why {
     UnknownCall,
     WordCount,
@@ -33,7 +35,7 @@ pub enum Why {
 }
 
 // What a line says: nothing where it has no words, or a comment.
-#[derive(Drop)]
+#[derive(Clone, Copy)]
 pub enum Words {
     Call(Call),
     Nothing,
@@ -41,7 +43,7 @@ pub enum Words {
 }
 
 // The calls with one value
-#[derive(Drop)]
+#[derive(Clone, Copy)]
 enum Valued {
     Estimate,
     Acknowledged,
@@ -51,7 +53,7 @@ enum Valued {
     Start,
 }
 
-#[derive(Drop)]
+#[derive(Clone, Copy)]
 enum Name {
     WithValue(Valued),
     Packet,

@@ -1,5 +1,7 @@
 // The candidates for the estimate: their upper bound, the at most six of them, and the choice among
 // them (src/bwe/loss_controller.rs).
+#![tactic(auto)]
+
 ghost use Rattle.std.specs.Prelude.{◌≡◌, ◌≤◌};
 ghost use Rattle.candidates.specs.Bound as Bound;
 ghost use Rattle.candidates.specs.Candidate as Candidate;
@@ -12,7 +14,7 @@ use likelihood::{ChannelParameters, Row};
 use time::{TimeDelta, Timestamp};
 
 // What the upper bound reads of the controller.
-#[derive(Drop)]
+#[derive(Clone, Copy)]
 pub struct Bounds {
     // link_capacity_bound: infinite outside ALR
     pub capacity: Bitrate,
@@ -29,7 +31,7 @@ pub struct Bounds {
 }
 
 // Six places, of which the first `count` are in use.
-#[derive(Drop)]
+#[derive(Clone, Copy)]
 pub struct Candidates {
     pub places: [ChannelParameters; 6],
     pub count: u64,
@@ -37,14 +39,14 @@ pub struct Candidates {
 
 // The chosen parameters, and the number of the refusal: 0 if there is none, and the current
 // parameters beside any other.
-#[derive(Drop)]
+#[derive(Clone, Copy)]
 pub struct ChoiceAnswer {
     pub best: ChannelParameters,
     pub refusal: u8,
 }
 
 // The best so far with its objective, and the first refusal.
-#[derive(Drop)]
+#[derive(Clone, Copy)]
 struct Best {
     objective_max: f64,
     best_candidate: ChannelParameters,

@@ -1,5 +1,7 @@
 // Which parts of a controller differ from those of another, floats by their bits: what the programs
 // that try the controller print.
+#![tactic(auto)]
+
 ghost use Rattle.std.specs.Prelude.{◌≡◌};
 ghost use Rattle.comparison.specs.Same as Same;
 
@@ -9,7 +11,7 @@ use likelihood::ChannelParameters;
 use loss_controller::{LossController, OptionInstant};
 use observation::{Observation, PartialObservation};
 
-#[derive(Drop)]
+#[derive(Clone, Copy)]
 pub struct Changes {
     pub profile: bool,
     pub sums: bool,

@@ -5,6 +5,8 @@
 // has its own `use_byte_loss_ratio`. Both temporal weight factors are 0.9: crate `logarithm` has the
 // table of weights. `newton_iterations` is 1. The maximum rate is infinite. The Rust's branch for a
 // loss ratio above 1.0, which no list reaches, is left out with its three settings and `min_bitrate`.
+#![tactic(auto)]
+
 use bandwidth::Bitrate;
 use duration::Duration;
 

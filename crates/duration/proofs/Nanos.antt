@@ -61,6 +61,9 @@ pub record Split (x : Float) (high low : ℕ) : Type 0 where
 pub split : (x cast : Float) (high low : ℕ) → fits binary64 x ≡ true → Proper x → high ≡ to_unsigned 64 (x ⊗ bits 0x42A0_0000_0000_0000)
     → cast ≡ of_int binary64 (pos high) → low ≡ to_unsigned 64 ((x ⊗ bits 0x42A0_0000_0000_0000 ⊖ cast) ⊗ bits 0x4270_0000_0000_0000) → Split x high low
 unfolding of_bits nearest_nanos
+split lib.Ieee.nan cast high low t l a k b = elim l [ ]
+split (lib.Ieee.inf _) cast high low t l a k b = elim l [ ]
+split (fin true m e) cast high low t l a k b = elim l [ ]
 split (fin false m e) cast high low t l a k b =
     let N = m * up e in
     let D = down e in

@@ -18,11 +18,15 @@ use Rattle.duration.proofs.Nearest.{closest_beside}
 -- ---- a float that is a / c
 
 proper_value : (x : Float) (a c : ℕ) → HasValue x false a c → a < c → Proper x
+proper_value nan a c v h = elim v [ ]
+proper_value (inf _) a c v h = elim v [ ]
 proper_value (fin true m e) a c v h = absurd (true≢false v.0)
 proper_value (fin false m e) a c v h = below_one (m * up e) (down e) a c (down_pos e) v.1 h
 
 nanos_value : (x : Float) (a c : ℕ) → 0 < c → HasValue x false a c → nearest_nanos x ≡ closest (a * nanos_per_second) c
 unfolding nearest_nanos
+nanos_value nan a c p v = elim v [ ]
+nanos_value (inf _) a c p v = elim v [ ]
 nanos_value (fin s m e) a c p v =
     closest_same (m * up e * nanos_per_second) (down e) (a * nanos_per_second) c (down_pos e) p
     (mul_right_comm (m * up e) nanos_per_second c ∙ ap (λ (z : ℕ). z * nanos_per_second) v.1 ∙ mul_right_comm a (down e) nanos_per_second)

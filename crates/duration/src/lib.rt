@@ -1,16 +1,18 @@
 // What the source uses of std::time::Duration, in whole ns that fit a u64.
+#![tactic(auto)]
+
 ghost use Rattle.std.specs.Prelude.{◌≡◌, ◌+◌, ◌*◌, ◌^◌, ◌<◌};
 ghost use Rattle.std.specs.Float.Ieee.Nearest.{closest};
 ghost use Rattle.duration.specs.Nanos.{fitted};
 ghost use Rattle.duration.specs.Seconds.{nanos_per_second, seconds, nearest_nanos, from_seconds, Proper};
 
-#[derive(Drop)]
+#[derive(Clone, Copy)]
 pub struct Duration {
     pub nanos: u64,
 }
 
 // A duration, and the number of the refusal: 0 if there is none, and 0 ns beside any other.
-#[derive(Drop)]
+#[derive(Clone, Copy)]
 pub struct DurationAnswer {
     pub duration: Duration,
     pub refusal: u8,

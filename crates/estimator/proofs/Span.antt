@@ -25,11 +25,17 @@ use Rattle.estimator.specs.Hold.{sixty, twice, doubled}
 
 over_billion : (x : Float) → T (upward x) → T (upward (x ⊘ billion))
 unfolding div of_bits
+over_billion lib.Ieee.nan p = elim p [ ]
+over_billion (inf true) p = elim p [ ]
+over_billion (fin true m e) p = elim p [ ]
 over_billion (inf false) p = tt
 over_billion (fin false m e) p = round_upward (m * up e * 1) (nanos_per_second * down e)
 
 times_two : (x : Float) → T (upward x) → T (upward (x ⊗ hold_duration_factor))
 unfolding mul of_bits
+times_two lib.Ieee.nan p = elim p [ ]
+times_two (inf true) p = elim p [ ]
+times_two (fin true m e) p = elim p [ ]
 times_two (inf false) p = tt
 times_two (fin false m e) p = round_upward (m * up e * 2) (down e * 1)
 
@@ -93,11 +99,17 @@ fitted_nanos n h = rw (accepted (λ (a : DurationAnswer). a.refusal) _ refused (
 
 taken : (x : Float) → T (upward x) → le sixty x ≡ false → (from_seconds x).refusal ≡ 0
 unfolding fitted
+taken lib.Ieee.nan p h = elim p [ ]
+taken (inf true) p h = elim p [ ]
+taken (fin true m e) p h = elim p [ ]
 taken (inf false) p h = absurd (true≢false (sym infinity_long ∙ h))
 taken (fin false m e) p h = rw (from_finite m e, lt-ltb (nanos m e) (2 ^ 64) (omega (arith, below_sixty m e h)))
 
 smaller : (x : Float) (b : Bool) → T (upward x) → le sixty x ≡ b → (from_seconds x).refusal ≡ 0
     → (cond b max_hold_duration (from_seconds x).duration).nanos ≡ min 60000000000 (from_seconds x).duration.nanos
+smaller lib.Ieee.nan b p h k = elim p [ ]
+smaller (inf true) b p h k = elim p [ ]
+smaller (fin true m e) b p h k = elim p [ ]
 smaller (inf false) b p h k = absurd (omega (arith, infinity_refused))
 smaller (fin false m e) true p h k =
     let n = fitted_nanos (nanos m e) (rw (from_finite m e) at k) in

@@ -1,6 +1,8 @@
 // The rest of `update_bandwidth_estimate` of src/bwe/loss_controller.rs once the best candidate is
 // chosen: increase limits, hold and state. The settings that the Rust asks here are fixed on; the
 // maximum rate is infinite.
+#![tactic(auto)]
+
 ghost use Rattle.std.specs.Prelude.{◌≡◌};
 ghost use Rattle.float.specs.Answer as Answer;
 ghost use Rattle.estimator.specs.State as State;
@@ -18,7 +20,7 @@ use time::{Timestamp, TimestampAnswer};
 const MAX_HOLD_SECS: f64 = 60.0;
 
 // State of the loss controller
-#[derive(Drop)]
+#[derive(Clone, Copy)]
 pub enum LossControllerState {
     // The estimate increases, limited by loss.
     Increasing,
@@ -29,7 +31,7 @@ pub enum LossControllerState {
 }
 
 // What keeps the estimate from rising again straight after loss
-#[derive(Drop)]
+#[derive(Clone, Copy)]
 pub struct HoldInfo {
     pub timestamp: Timestamp,
     pub duration: Duration,
@@ -38,14 +40,14 @@ pub struct HoldInfo {
 
 // The recovery after loss: from its timestamp on, for the delayed increase window, the limit bounds
 // the estimate.
-#[derive(Drop)]
+#[derive(Clone, Copy)]
 pub struct Recovery {
     pub recovering_after_loss_timestamp: Timestamp,
     pub bandwidth_limit_in_current_window: Bitrate,
 }
 
 // The fields of the controller that these steps read and write
-#[derive(Drop)]
+#[derive(Clone, Copy)]
 pub struct Estimator {
     pub state: LossControllerState,
     pub current_estimate: ChannelParameters,
@@ -55,7 +57,7 @@ pub struct Estimator {
 }
 
 // What else they read
-#[derive(Drop)]
+#[derive(Clone, Copy)]
 pub struct Report {
     pub average_reported_loss_ratio: f64,
     pub acknowledged_bitrate: Bitrate,
@@ -66,7 +68,7 @@ pub struct Report {
 
 // The estimator, and the number of the refusal: 0 if there is none, and the estimator unchanged
 // beside any other.
-#[derive(Drop)]
+#[derive(Clone, Copy)]
 pub struct EstimatorAnswer {
     pub estimator: Estimator,
     pub refusal: u8,
@@ -74,13 +76,13 @@ pub struct EstimatorAnswer {
 
 // A hold, or a recovery, and the number of the refusal: 0 if there is none, and unchanged beside
 // any other.
-#[derive(Drop)]
+#[derive(Clone, Copy)]
 struct HoldAnswer {
     hold: HoldInfo,
     refusal: u8,
 }
 
-#[derive(Drop)]
+#[derive(Clone, Copy)]
 struct RecoveryAnswer {
     recovery: Recovery,
     refusal: u8,

@@ -18,12 +18,19 @@ fraction_at_most m n a b c d D h k =
 -- one with its sign clear is finite too
 pub at_most_finite : (m x : Float) → T (finite m) → T (upward x) → lt m x ≡ false → T (finite x)
 unfolding lt
+at_most_finite nan _ f u h = elim f [ ]
+at_most_finite (inf _) _ f u h = elim f [ ]
+at_most_finite (fin s m k) nan f u h = elim u [ ]
+at_most_finite (fin s m k) (inf true) f u h = elim u [ ]
 at_most_finite (fin s m k) (inf false) f u h = absurd (true≢false h)
 at_most_finite (fin s m k) (fin t n d) f u h = tt
 
 -- what is below a float that m is not below
 pub below_at_most : (m x y : Float) → T (finite m) → T (upward m) → lt y x ≡ true → lt m x ≡ false → lt m y ≡ false
 unfolding lt
+below_at_most nan x y f u l h = elim f [ ]
+below_at_most (inf _) x y f u l h = elim f [ ]
+below_at_most (fin true m k) x y f u l h = elim u [ ]
 below_at_most (fin false m k) x nan f u l h = refl
 below_at_most (fin false m k) x (inf true) f u l h = refl
 below_at_most (fin false m k) x (fin true n d) f u l h = refl

@@ -31,9 +31,9 @@ is_nan_lem (fin s m e) h = absurd (false≢true h)
 pub not_nan : (x : Float) → is_nan x ≡ false → T (not (is_nan x))
 not_nan x h = rw h tt
 
-pub nan_bits : (x : Float) → is_nan x ≡ true → 0x7FF8000000000000 ≡ to_bits binary64 x
+pub nan_bits_lem : (x : Float) → is_nan x ≡ true → 0x7FF8000000000000 ≡ to_bits binary64 x
 unfolding to_bits
-nan_bits x h = ap (to_bits binary64) (is_nan_lem x h)
+nan_bits_lem x h = ap (to_bits binary64) (is_nan_lem x h)
 
 -- a pattern is a NaN's where it is above infinity's, the sign left out
 pub nan_pattern : (n : ℕ) → 0x7FF0000000000000 < n % 2 ^ 63 → nan ≡ of_bits binary64 n

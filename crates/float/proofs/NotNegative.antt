@@ -30,6 +30,7 @@ inf_not_negative = record { holds = inf-fits binary64 false; above = tt }
 -- a float with the sign clear is no NaN
 pub upward_not_nan : (x : Float) → T (upward x) → is_nan x ≡ false
 unfolding is_nan
+upward_not_nan nan u = elim u [ ]
 upward_not_nan (inf s) u = refl
 upward_not_nan (fin s m e) u = refl
 
@@ -38,6 +39,9 @@ upward_not_nan (fin s m e) u = refl
 -- what is above a float with the sign clear has it clear
 pub above_upward : (x y : Float) → T (upward x) → lt x y ≡ true → T (upward y)
 unfolding lt
+above_upward nan y u h = elim u [ ]
+above_upward (inf true) y u h = elim u [ ]
+above_upward (fin true m e) y u h = elim u [ ]
 above_upward (inf false) nan u h = absurd (false≢true h)
 above_upward (inf false) (inf t) u h = absurd (false≢true h)
 above_upward (inf false) (fin t n d) u h = absurd (false≢true h)
@@ -64,6 +68,15 @@ round_not_negative a c = record { holds = round-fits binary64 false a c; above =
 
 pub add_upward : (x y : Float) → T (upward x) → T (upward y) → T (upward (x ⊕ y))
 unfolding add sum
+add_upward nan y u v = elim u [ ]
+add_upward (inf false) nan u v = elim v [ ]
+add_upward (inf false) (inf true) u v = elim v [ ]
+add_upward (inf false) (fin true n d) u v = elim v [ ]
+add_upward (inf true) y u v = elim u [ ]
+add_upward (fin false m e) nan u v = elim v [ ]
+add_upward (fin false m e) (inf true) u v = elim v [ ]
+add_upward (fin false m e) (fin true n d) u v = elim v [ ]
+add_upward (fin true m e) y u v = elim u [ ]
 add_upward (inf false) (inf false) u v = tt
 add_upward (inf false) (fin false n d) u v = tt
 add_upward (fin false m e) (inf false) u v = tt
@@ -76,4 +89,10 @@ add_not_negative x y n k = record { holds = add-fits binary64 x y; above = add_u
 -- a product of two finite ones
 pub mul_not_negative : (x y : Float) → T (finite x) → T (upward x) → T (finite y) → T (upward y) → NotNegative (x ⊗ y)
 unfolding mul
+mul_not_negative nan y f u g v = elim f [ ]
+mul_not_negative (inf _) y f u g v = elim f [ ]
+mul_not_negative (fin false m e) nan f u g v = elim g [ ]
+mul_not_negative (fin false m e) (inf _) f u g v = elim g [ ]
+mul_not_negative (fin false m e) (fin true n d) f u g v = elim v [ ]
+mul_not_negative (fin true m e) y f u g v = elim u [ ]
 mul_not_negative (fin false m e) (fin false n d) f u g v = round_not_negative (m * up e * (n * up d)) (down e * down d)

@@ -42,6 +42,8 @@ module _ (f : Format) where
   pub times_power : (x : Float) (i a c : ℕ) → T (fits f x) → 0 < c → HasValue x false a c → a < c → i ≤ emax f
       → HasValue (mul f x (fin false 1 (pos i))) false (2 ^ i * a) c
   unfolding mul
+  times_power lib.Ieee.nan i a c t p v h l = elim v [ ]
+  times_power (lib.Ieee.inf _) i a c t p v h l = elim v [ ]
   times_power (fin true m e) i a c t p v h l = absurd (true≢false v.0)
   times_power (fin false m e) i a c t p v h l =
       let N = m * up e in
@@ -58,6 +60,8 @@ module _ (f : Format) where
   difference : (m : ℕ) (e : ℤ) (y : Float) (n r c : ℕ) → 0 < c → HasValue y false n 1 → m * up e * c ≡ (n * c + r) * down e
       → sub f (fin false m e) y ≡ round f false r c
   unfolding sub add sum neg
+  difference m e lib.Ieee.nan n r c p w v = elim w [ ]
+  difference m e (lib.Ieee.inf _) n r c p w v = elim w [ ]
   difference m e (fin true q d) n r c p w v = absurd (true≢false w.0)
   difference m e (fin false q d) n r c p w v =
       let g = gap (m * up e) (down e) (q * up d) (down d) n r c p v (sym (mul-one (q * up d)) ∙ w.1) in
@@ -90,6 +94,8 @@ module _ (f : Format) where
   pub less_whole : (x : Float) (a c : ℕ) → T (fits f x) → 0 < c → HasValue x false a c → a / c ≤ 2 ^ prec f
       → HasValue (sub f x (of_int f (pos (a / c)))) false (a % c) c
   unfolding of_int
+  less_whole lib.Ieee.nan a c t p v l = elim v [ ]
+  less_whole (lib.Ieee.inf _) a c t p v l = elim v [ ]
   less_whole (fin true m e) a c t p v l = absurd (true≢false v.0)
   less_whole (fin false m e) a c t p v l =
       rw (difference m e (round f false (a / c) 1) (a / c) (a % c) c p (round_whole f false (a / c) l) (rw (div-add-mod' a c) v.1))

@@ -117,12 +117,17 @@ abs_zero (fin s m e) t h = whole_again binary64 false m e 0 (rw sign_fits at (ye
 
 pub abs_negative : (x : Float) → T (negative x) → neg x ≡ magnitude x
 unfolding magnitude neg
+abs_negative nan h = elim h [ ]
+abs_negative (inf false) h = elim h [ ]
+abs_negative (fin false m e) h = elim h [ ]
 abs_negative (inf true) h = refl
 abs_negative (fin true m e) h = refl
 
 pub abs_other : (x : Float) → T (not (negative x)) → x ≡ magnitude x
 unfolding magnitude
 abs_other nan h = refl
+abs_other (inf true) h = elim h [ ]
+abs_other (fin true m e) h = elim h [ ]
 abs_other (inf false) h = refl
 abs_other (fin false m e) h = refl
 
@@ -130,6 +135,8 @@ abs_other (fin false m e) h = refl
 
 pub cast_inside : (x : Float) (a c : ℕ) → 0 < c → HasValue x false a c → a < 2 ^ 64 * c → to_unsigned 64 x ≡ a / c
 unfolding to_unsigned
+cast_inside nan a c p v h = elim v [ ]
+cast_inside (inf _) a c p v h = elim v [ ]
 cast_inside (fin true m e) a c p v h = absurd (true≢false v.0)
 cast_inside (fin false m e) a c p v h = omega (arith, div_same _ _ a c (down_pos e) p v.1, (div-lt_iff_lt-mul p).1 h)
 
@@ -160,10 +167,15 @@ part_is s m e h = cast_inside (fin false m e) _ _ (down_pos e) (refl, refl) (ome
 
 pub ceil_negative : (x : Float) → Small x → T (negative x) → neg (of_int binary64 (pos (part x))) ≡ ceiling x
 unfolding ceiling of_int
+ceil_negative nan h s = elim h [ ]
+ceil_negative (inf _) h s = elim h [ ]
+ceil_negative (fin false m e) h s = elim s [ ]
 ceil_negative (fin true m e) h s = rw (part_is true m e h) (neg_round binary64 (m * up e / down e) 1)
 
 lt_whole : (y : Float) (n m : ℕ) (e : ℤ) → HasValue y false n 1 → lt y (fin false m e) ≡ ltb (n * down e) (m * up e)
 unfolding lt
+lt_whole nan n m e v = elim v [ ]
+lt_whole (inf _) n m e v = elim v [ ]
 lt_whole (fin true a b) n m e v = absurd (true≢false v.0)
 lt_whole (fin false a b) n m e v =
     let x : a * up b * down e ≡ n * down e * down b = ap (λ (z : ℕ). z * down e) (sym (mul-one (a * up b)) ∙ v.1) ∙ mul_right_comm n (down b) (down e) in
@@ -180,12 +192,18 @@ part_test m e h =
 
 pub ceil_above : (x : Float) → Small x → T (not (negative x)) → lt (of_int binary64 (pos (part x))) x ≡ true → of_int binary64 (pos (part x + 1)) ≡ ceiling x
 unfolding ceiling of_int
+ceil_above nan h s t = elim h [ ]
+ceil_above (inf _) h s t = elim h [ ]
+ceil_above (fin true m e) h s t = elim s [ ]
 ceil_above (fin false m e) h s t =
     let k = sym (part_test m e h) ∙ t in
     rw (part_is false m e h, ceiling_of_other (m * up e) (down e) (down_pos e) (omega (arith, ltb-true)))
 
 pub ceil_level : (x : Float) → Small x → T (not (negative x)) → lt (of_int binary64 (pos (part x))) x ≡ false → of_int binary64 (pos (part x)) ≡ ceiling x
 unfolding ceiling of_int
+ceil_level nan h s t = elim h [ ]
+ceil_level (inf _) h s t = elim h [ ]
+ceil_level (fin true m e) h s t = elim s [ ]
 ceil_level (fin false m e) h s t =
     let k = sym (part_test m e h) ∙ t in
     let n : m * up e ≡ m * up e / down e * down e = omega (arith, ltb-false, div-mul-le_self (m * up e) (down e)) in
@@ -218,6 +236,8 @@ halves_are s m e t h =
     (omega arith))
 
 pub halves_small : (x : Float) (n : ℕ) → fits binary64 x ≡ true → Small x → n ≡ halves x → n < 2 ^ 53
+halves_small nan n t h z = elim h [ ]
+halves_small (inf _) n t h z = elim h [ ]
 halves_small (fin s m e) n t h z = rw (z, halves_are s m e t h) ((div-lt_iff_lt-mul (down_pos e)).1 (omega arith))
 
 rounded : (s : Bool) (m : ℕ) (e : ℤ) → fits binary64 (fin s m e) ≡ true → Small (fin s m e)
@@ -226,8 +246,14 @@ rounded s m e t h = rw (halves_are s m e t h) (half_of_part _ _ (down_pos e))
 
 pub round_negative : (x : Float) → fits binary64 x ≡ true → Small x → T (negative x) → neg (of_int binary64 (pos ((halves x + 1) / 2))) ≡ half_away x
 unfolding of_int half_away
+round_negative nan t h s = elim h [ ]
+round_negative (inf _) t h s = elim h [ ]
+round_negative (fin false m e) t h s = elim s [ ]
 round_negative (fin true m e) t h s = rw (rounded true m e t h) (neg_round binary64 ((2 * (m * up e) + down e) / (2 * down e)) 1)
 
 pub round_other : (x : Float) → fits binary64 x ≡ true → Small x → T (not (negative x)) → of_int binary64 (pos ((halves x + 1) / 2)) ≡ half_away x
 unfolding of_int half_away
+round_other nan t h s = elim h [ ]
+round_other (inf _) t h s = elim h [ ]
+round_other (fin true m e) t h s = elim s [ ]
 round_other (fin false m e) t h s = rw (rounded false m e t h)

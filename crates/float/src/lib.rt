@@ -1,5 +1,7 @@
 // f64 with Rust's rules, for what Rattle's own operators leave open: a NaN operand, a cast that
 // loses something, a bit pattern that is a NaN's.
+#![tactic(auto)]
+
 ghost use Rattle.std.specs.Prelude.{◌≡◌, true, false, from_bits, is_nan, to_bits};
 ghost use Rattle.std.specs.Float.{binary64, inf};
 ghost use Rattle.std.specs.Float.Ieee.{to_signed, to_unsigned};
@@ -9,7 +11,7 @@ ghost use Rattle.float.specs.Answer.{clamped};
 ghost use Rattle.float.specs.Order.{partial_order};
 
 // A float, and the number of the refusal: 0 if there is none, and 0.0 beside any other.
-#[derive(Drop)]
+#[derive(Clone, Copy)]
 pub struct FloatAnswer {
     pub value: f64,
     pub refusal: u8,
@@ -23,7 +25,7 @@ impl FloatAnswer {
 }
 
 // Option<core::cmp::Ordering>: None, where one operand is NaN, is Unordered.
-#[derive(Drop)]
+#[derive(Clone, Copy)]
 pub enum PartialOrdering {
     Less,
     Equal,

@@ -1,4 +1,6 @@
 // Numbers in hexadecimal, as the replay programs read them.
+#![tactic(auto)]
+
 ghost use Rattle.std.specs.Prelude.{◌≡◌, ◌<◌};
 ghost use Rattle.hexadecimal.specs.Digits.{digit_of, with_digit, value};
 

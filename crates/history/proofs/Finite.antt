@@ -28,6 +28,11 @@ kept (call ∷ later) c h r n f =
 
 -- reports are no estimates
 report_hands : (call : Call) → T (is_report call) → T (hands_finite call)
+report_hands (Rattle.history.specs.Calls.estimate _) n = elim n [ ]
+report_hands (Rattle.history.specs.Calls.acknowledged _) n = elim n [ ]
+report_hands (Rattle.history.specs.Calls.alr _) n = elim n [ ]
+report_hands (Rattle.history.specs.Calls.capacity _) n = elim n [ ]
+report_hands Rattle.history.specs.Calls.read n = elim n [ ]
 report_hands (report times sizes flags delay) n = tt
 
 reports_hand : (later : List Call) → T (all is_report later) → T (all hands_finite later)

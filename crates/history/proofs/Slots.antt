@@ -103,15 +103,20 @@ module _ {A : Type 0} where
   by_age_last (suc m) n [] = let last = by_age_last m n [] in (last.0, rw last.1)
   by_age_last (suc m) n (a ∷ l) = let last = by_age_last m (n - 1) l in (last.0, rw last.1)
 
+  by_age_new : (m n : ℕ) (a : A) (l : List A) → by_age (suc m) (n + 1) (take (suc m) (a ∷ l)) ≡ some (n, a) ∷ by_age m n l
+  unfolding by_age
+  by_age_new m n a l = let e : n + 1 - 1 ≡ n = omega arith in rw (e, by_age_take m n l)
+
   -- a new element is set at n % 15, and a sixteenth is gone
   pub slots_turn : (n : ℕ) (a : A) (l : List A) → set (slots n l) (n % 15) (some (n, a)) ≡ slots (n + 1) (take 15 (a ∷ l))
-  unfolding slots by_age
+  unfolding slots
   slots_turn n a l =
       let last = by_age_last 14 n l in
-      let e : n + 1 - 1 ≡ n = omega arith in
       let r : n % 15 ≤ length (by_age 14 n l) = rw (by_age_length 14 n l) (omega arith) in
-      rw (last.1, e, by_age_take 14 n l)
-      (turned_set (by_age 14 n l) last.0 (some (n, a)) (n % 15) r ∙ turned_next n (some (n, a) ∷ by_age 14 n l) (ap suc (by_age_length 14 n l)))
+      ap (λ (x : List (Option (ℕ × A))). set (turned (n % 15) x) (n % 15) (some (n, a))) last.1
+      ∙ turned_set (by_age 14 n l) last.0 (some (n, a)) (n % 15) r
+      ∙ turned_next n (some (n, a) ∷ by_age 14 n l) (ap suc (by_age_length 14 n l))
+      ∙ ap (turned ((n + 1) % 15)) (sym (by_age_new 14 n a l))
 
 -- to set an element and then map is to map and then set
 pub map_set : {A B : Type 0} (f : A → B) (l : List A) (i : ℕ) (a : A) → map f (set l i a) ≡ set (map f l) i (f a)

@@ -1,6 +1,6 @@
 -- Laws on whole numbers and on those that an i64 holds, from -2^63 to 2^63 - 1.
 -- Assumes nothing.
-use Rattle.core.specs.Prelude.{◌≡◌, ℕ, zero, suc, ◌+◌, ◌-◌, ◌*◌, ◌/◌, ◌^◌, ◌<◌, ◌≤◌, Bool, true, false, cond, T, ltb, ℤ, pos, negsuc, ◌+ℤ◌, ◌-ℤ◌, ◌*ℤ◌, neg_ℤ, nat_abs}
+use Rattle.std.specs.Prelude.{◌≡◌, ℕ, zero, suc, ◌+◌, ◌-◌, ◌*◌, ◌/◌, ◌^◌, ◌<◌, ◌≤◌, Bool, true, false, cond, T, ltb, ℤ, pos, negsuc, ◌+ℤ◌, ◌-ℤ◌, ◌*ℤ◌, neg_ℤ, nat_abs}
 use mathlib.Core.Path.{refl, sym, subst, ap, ◌∙◌}
 use mathlib.Core.Bool.{beq}
 use native.Mathlib.Nat.{le-div_iff_mul-le, div-lt_iff_lt-mul}

@@ -1,5 +1,5 @@
 -- Worked examples of the definitions beside this file, at both ends of i64 and u64, which antt computes. They test the definitions; no proof cites them.
-use Rattle.core.specs.Prelude.{◌≡◌, ◌-◌, ◌^◌, [], ◌∷◌, map, ℤ, pos, negsuc, ◌+ℤ◌, ◌-ℤ◌, ◌*ℤ◌, unsigned_abs}
+use Rattle.std.specs.Prelude.{◌≡◌, ◌-◌, ◌^◌, [], ◌∷◌, map, ℤ, pos, negsuc, ◌+ℤ◌, ◌-ℤ◌, ◌*ℤ◌, unsigned_abs}
 use Rattle.std.specs.Prelude.{refl}
 use Rattle.integer.specs.Fitted.{in_i64, fitted, unsigned, larger, ordered}
 use Rattle.integer.specs.declared.IntegerAnswer.{IntegerAnswer}

@@ -1,5 +1,5 @@
 -- Whole numbers that go into an i64, or are refused with 7. Definitions only.
-use Rattle.core.specs.Prelude.{◌^◌, Bool, cond, ℤ, pos, negsuc, int_le, int_lt, nat_lt}
+use Rattle.std.specs.Prelude.{◌^◌, Bool, cond, ℤ, pos, negsuc, int_le, int_lt, nat_lt}
 use Rattle.std.specs.Int.Signed.{mag}
 use Rattle.integer.specs.declared.IntegerAnswer.{IntegerAnswer}
 use Rattle.integer.specs.declared.UsizeAnswer.{UsizeAnswer}

@@ -1,25 +1,27 @@
 // i64 arithmetic that refuses with 7 where Rust's would overflow, and the order of i64.
-ghost use Rattle.core.specs.Prelude.{◌≡◌, pos, ◌+ℤ◌, ◌-ℤ◌, ◌*ℤ◌, neg_ℤ, unsigned_abs};
+#![tactic(auto)]
+
+ghost use Rattle.std.specs.Prelude.{◌≡◌, pos, ◌+ℤ◌, ◌-ℤ◌, ◌*ℤ◌, neg_ℤ, unsigned_abs};
 ghost use Rattle.std.specs.Bool.{beq};
 ghost use Rattle.std.specs.Int.Signed.{non_neg};
 ghost use Rattle.integer.specs.Fitted.{in_i64, fitted, unsigned, larger, ordered};
 
 // A whole number, and the number of the refusal: 0 if there is none, and 0 beside any other.
-#[derive(Drop)]
+#[derive(Clone, Copy)]
 pub struct IntegerAnswer {
     pub value: i64,
     pub refusal: u8,
 }
 
 // A natural number, likewise.
-#[derive(Drop)]
+#[derive(Clone, Copy)]
 pub struct UsizeAnswer {
     pub value: usize,
     pub refusal: u8,
 }
 
 // core::cmp::Ordering
-#[derive(Drop)]
+#[derive(Clone, Copy)]
 pub enum Ordering {
     Less,
     Equal,

@@ -1,5 +1,7 @@
 // Thin forms of the report: over a lent controller, and over a slice of packet records. Each gives
 // what the call by value over three columns gives.
+#![tactic(auto)]
+
 ghost use Rattle.std.specs.Prelude.{◌≡◌};
 ghost use Rattle.loss_controller.specs.Report.{update_bandwidth_estimate};
 ghost use Rattle.lent.specs.Records.{update_records, finished};

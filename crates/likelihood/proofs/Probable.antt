@@ -35,6 +35,10 @@ use Rattle.likelihood.proofs.Probability.{difference_taken}
 -- what has its sign clear and is no more than a finite float is finite
 finite_below : (x y : Float) → T (upward x) → T (finite y) → T (le x y) → T (finite x)
 unfolding le
+finite_below nan y u f h = elim u [ ]
+finite_below (inf false) nan u f h = elim f [ ]
+finite_below (inf false) (inf _) u f h = elim f [ ]
+finite_below (inf true) y u f h = elim u [ ]
 finite_below (inf false) (fin t m e) u f h = absurd h
 finite_below (fin s m e) y u f h = tt
 
@@ -76,11 +80,16 @@ inherent_finite x n =
 
 -- a plain float of binary64 is exact
 plain_exact : (x : Float) → T (plain x) → T (fits binary64 x) → HasValue (round binary64 false (num x) (den x)) false (num x) (den x)
+plain_exact nan p f = elim p [ ]
+plain_exact (inf _) p f = elim p [ ]
+plain_exact (fin true m e) p f = elim p [ ]
 plain_exact (fin false m e) p f =
     let s : 1 * (m * up e) ≡ m * up e = one-mul (m * up e) in
     held_exact binary64 false false m e 0 (m * up e) (down e) f (down_pos e) (rw s) (rw s (fits_says binary64 false m e f).2)
 
 value_finite : (x : Float) (a c : ℕ) → HasValue x false a c → T (finite x)
+value_finite nan a c v = elim v [ ]
+value_finite (inf _) a c v = elim v [ ]
 value_finite (fin s m e) a c v = tt
 
 -- the difference is no more than s, so it is finite, and divided by s it is 1 at most
@@ -126,6 +135,8 @@ congested_not_nan i limited sending k u fit =
     (λ h. finite_not_nan i k.itself)
   where
     finite_not_nan : (x : Float) → T (finite x) → NotNan x
+    finite_not_nan nan f = elim f [ ]
+    finite_not_nan (inf _) f = elim f [ ]
     finite_not_nan (fin s m e) f = unfold is_nan in refl
 
 -- ---- the whole, clamped to 0.000001 and 1 - 0.000001
@@ -154,6 +165,9 @@ under_le : (x y : Float) → Under x y → T (le x y)
 under_le x y u = le_of_values x y (num x) (den x) (num y) (den y) (den_pos x) (den_pos y) (own x u.left) (own y u.right) u.below
   where
     own : (x : Float) → T (plain x) → HasValue x false (num x) (den x)
+    own nan p = elim p [ ]
+    own (inf _) p = elim p [ ]
+    own (fin true m e) p = elim p [ ]
     own (fin false m e) p = (refl, refl)
 
 -- what is neither NaN nor beyond the ends

@@ -1,5 +1,7 @@
 // The likelihood of loss_controller.rs: how well a candidate explains the observations, which come
 // as rows of floats in slot order.
+#![tactic(auto)]
+
 ghost use Rattle.std.specs.Prelude.{◌≡◌, true, false};
 ghost use Rattle.likelihood.specs.Feasible.{upper_bound, feasible};
 ghost use Rattle.likelihood.specs.Probability.{congested, probability};
@@ -11,7 +13,7 @@ use bandwidth::Bitrate;
 use float::FloatAnswer;
 
 // An estimate derived from some candidate.
-#[derive(Drop)]
+#[derive(Clone, Copy)]
 pub struct ChannelParameters {
     pub inherent_loss: f64,
     pub loss_limited_bandwidth: Bitrate,
@@ -19,7 +21,7 @@ pub struct ChannelParameters {
 
 // One observation as the likelihood sees it: its weight, its sizes in kB or its packets as floats,
 // its rate.
-#[derive(Drop)]
+#[derive(Clone, Copy)]
 pub struct Row {
     pub is_initialized: bool,
     pub weight: f64,
@@ -30,7 +32,7 @@ pub struct Row {
 }
 
 // The first two derivatives of the likelihood by the inherent loss.
-#[derive(Drop)]
+#[derive(Clone, Copy)]
 pub struct Derivatives {
     pub first: f64,
     pub second: f64,

@@ -36,6 +36,10 @@ difference n k C p = go (ltb n k) refl
 
 whole_difference : (x y : Float) (n k : ℕ) → HasValue x false n 1 → HasValue y false k 1 → x ⊖ y ≡ of_int binary64 (sub_ℕ n k)
 unfolding sub add neg
+whole_difference lib.Ieee.nan y n k v w = elim v [ ]
+whole_difference (lib.Ieee.inf _) y n k v w = elim v [ ]
+whole_difference (fin false m e) lib.Ieee.nan n k v w = elim w [ ]
+whole_difference (fin false m e) (lib.Ieee.inf _) n k v w = elim w [ ]
 whole_difference (fin true m e) y n k v w = absurd (true≢false v.0)
 whole_difference (fin false m e) (fin true l d) n k v w = absurd (true≢false w.0)
 whole_difference (fin false m e) (fin false l d) n k v w =

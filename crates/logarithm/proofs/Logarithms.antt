@@ -86,6 +86,8 @@ one_normal = tt
 -- 1 more than what is finite and not negative has a logarithm
 pub one_more : (x : Float) → NotNegative x → T (finite x) → (logarithm (one ⊕ x)).refusal ≡ 0
 unfolding of_bits add sum
+one_more lib.Ieee.nan n f = elim f [ ]
+one_more (lib.Ieee.inf _) n f = elim f [ ]
 one_more (fin true m e) n f = absurd n.above
 one_more (fin false m e) n f =
     let d : 0 < 1 * down e = rw one-mul (down_pos e) in

@@ -1,5 +1,7 @@
 // Document 01's logarithm, power and weights ("Logarithm and powers"): fixed steps in a fixed order,
 // each operation rounded once, so that every machine has the same bits.
+#![tactic(auto)]
+
 ghost use Rattle.std.specs.Prelude.{◌≡◌};
 ghost use Rattle.logarithm.specs.Ln.{logarithm, logarithm_of_bits};
 ghost use Rattle.logarithm.specs.Power.{power, weight as weightOf};

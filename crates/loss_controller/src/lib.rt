@@ -1,5 +1,7 @@
 // `LossController` of src/bwe/loss_controller.rs, its calls by value. A call that is refused hands
 // the controller back as it was.
+#![tactic(auto)]
+
 ghost use Rattle.std.specs.Prelude.{◌≡◌, true};
 ghost use Rattle.loss_controller.specs.Controller as Controller;
 ghost use Rattle.loss_controller.specs.Setters as Setters;
@@ -14,14 +16,14 @@ use observation::Observations;
 use packets::{PacketResultsSummary, PacketSize};
 
 // Option<Instant>
-#[derive(Drop)]
+#[derive(Clone, Copy)]
 pub enum OptionInstant {
     Some(u64),
     None,
 }
 
 // What the controller is told by others
-#[derive(Drop)]
+#[derive(Clone, Copy)]
 pub struct Inputs {
     pub acknowledged_bitrate: Bitrate,
     pub delay_based_estimate: Bitrate,
@@ -31,7 +33,7 @@ pub struct Inputs {
     pub link_capacity_estimate: OptionBitrate,
 }
 
-#[derive(Drop)]
+#[derive(Clone, Copy)]
 pub struct LossController {
     pub observations: Observations,
     pub estimator: Estimator,
@@ -40,13 +42,13 @@ pub struct LossController {
 
 // The controller after a call, and the number of the refusal: 0 if there is none, and the controller
 // as it was beside any other.
-#[derive(Drop)]
+#[derive(Clone, Copy)]
 pub struct ControllerAnswer {
     pub controller: LossController,
     pub refusal: u8,
 }
 
-#[derive(Drop)]
+#[derive(Clone, Copy)]
 pub struct LossBasedBweResult {
     pub bandwidth_estimate: OptionBitrate,
     pub state: LossControllerState,

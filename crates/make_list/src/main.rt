@@ -1,6 +1,8 @@
 // Makes a call list: lines of words on standard input, call lines on standard output. What words say is
 // `call_words`'s, and the lines are `call_line`'s; here are the buffers, the messages and the calls of C.
 // A wrong line is told on standard error, with its number, and makes no call line.
+#![tactic(auto)]
+
 ghost use Rattle.std.specs.Prelude.{◌≤◌, ◌≡◌, length};
 ghost use Rattle.call_line.specs.Write.{line_text, line_bytes, write_refusal};
 
@@ -16,7 +18,7 @@ const LONGEST: usize = 256;
 
 // What is between two bytes: how many of the line's bytes are kept, its number, and whether all was
 // written so far.
-#[derive(Drop)]
+#[derive(Clone, Copy)]
 struct Place {
     kept: usize,
     number: u64,

@@ -1,5 +1,7 @@
 // The observations of the controller: the running sums, the window of fifteen, the loss ratio and
 // the ceiling that it sets, from loss_controller.rs. Sizes are u64 bytes.
+#![tactic(auto)]
+
 ghost use Rattle.std.specs.Prelude.{◌≡◌, ◌+◌, ◌^◌, ◌<◌, ◌≤◌, pos, ◌-ℤ◌, nat_lt};
 ghost use mathlib.Core.List.{foldl};
 ghost use Rattle.bandwidth.specs.Size as Size;
@@ -25,7 +27,7 @@ const MOST_RUNNING_BYTES: u64 = 1_000_000_000_000;
 const MOST_OBSERVATIONS: u64 = 1_000_000_000;
 
 // The sums of an observation that is being made.
-#[derive(Drop)]
+#[derive(Clone, Copy)]
 pub struct PartialObservation {
     pub num_packets: u64,
     pub num_lost_packets: u64,
@@ -35,13 +37,13 @@ pub struct PartialObservation {
 
 // Running sums, and the number of the refusal: 0 if there is none, and the sums as they were beside
 // any other.
-#[derive(Drop)]
+#[derive(Clone, Copy)]
 pub struct PartialAnswer {
     pub partial: PartialObservation,
     pub refusal: u8,
 }
 
-#[derive(Drop)]
+#[derive(Clone, Copy)]
 pub struct Observation {
     pub num_packets: u64,
     pub size: u64,
@@ -54,7 +56,7 @@ pub struct Observation {
 }
 
 // An observation, and the number of the refusal: 0 if there is none, and DUMMY beside any other.
-#[derive(Drop)]
+#[derive(Clone, Copy)]
 struct ObservationAnswer {
     observation: Observation,
     refusal: u8,
@@ -62,7 +64,7 @@ struct ObservationAnswer {
 
 // What `maybe_add_observation` and `reset_observations` change of the controller, and the profile,
 // which is fixed when it is made: whether loss is counted in bytes or in packets.
-#[derive(Drop)]
+#[derive(Clone, Copy)]
 pub struct Observations {
     pub use_byte_loss_ratio: bool,
     pub partial_observation: PartialObservation,
@@ -74,7 +76,7 @@ pub struct Observations {
 
 // The observations after a report, whether it completed one, and the number of the refusal: 0 if
 // there is none, and the observations as they were beside any other.
-#[derive(Drop)]
+#[derive(Clone, Copy)]
 pub struct AddedAnswer {
     pub observations: Observations,
     pub completed: bool,
@@ -83,7 +85,7 @@ pub struct AddedAnswer {
 
 // What an observation has by the profile's measure, and the number of the refusal, with counts 0.0
 // beside any.
-#[derive(Drop)]
+#[derive(Clone, Copy)]
 struct Counts {
     total: f64,
     lost: f64,
@@ -91,7 +93,7 @@ struct Counts {
 }
 
 // The weighted sums of the loss ratio, and the number of the refusal, with sums 0.0 beside any.
-#[derive(Drop)]
+#[derive(Clone, Copy)]
 struct LossSums {
     total: f64,
     lost: f64,
@@ -99,7 +101,7 @@ struct LossSums {
 }
 
 // A row, and the number of the refusal: 0 if there is none, and an empty row beside any other.
-#[derive(Drop)]
+#[derive(Clone, Copy)]
 struct RowAnswer {
     row: Row,
     refusal: u8,
@@ -107,7 +109,7 @@ struct RowAnswer {
 
 // The window as rows, and the number of the refusal: 0 if there is none, and empty rows beside any
 // other.
-#[derive(Drop)]
+#[derive(Clone, Copy)]
 pub struct RowsAnswer {
     pub rows: [Row; 15],
     pub refusal: u8,

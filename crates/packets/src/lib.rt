@@ -1,5 +1,7 @@
 // The packets of a report, lent in three columns, and their totals: `PacketResult` and
 // `PacketResultsSummary` of loss_controller.rs. Instants are numbers of ns.
+#![tactic(auto)]
+
 ghost use Rattle.std.specs.Prelude.{◌≡◌, ◌<◌, true};
 ghost use Rattle.packets.specs.Summary.{most_packets, columns_refusal, packet_refusal, refused, later, add_packet, is_of_report, added, summary_of};
 
@@ -15,7 +17,7 @@ pub const LARGEST_PACKET: u64 = 9_999_999;
 pub const LATEST_TIME: u64 = 4_000_000_000_000_000_000;
 
 // What the trait `PacketResult` tells of a packet. `lost` is 1 or 0; any other flag is refused.
-#[derive(Drop)]
+#[derive(Clone, Copy)]
 pub struct PacketResult {
     pub local_send_time: u64,
     pub size: PacketSize,
@@ -23,7 +25,7 @@ pub struct PacketResult {
 }
 
 // The totals of a report. The Rust's `first_send_time` is never read, and is left out.
-#[derive(Drop)]
+#[derive(Clone, Copy)]
 pub struct PacketResultsSummary {
     pub num_packets: u64,
     pub num_lost_packets: u64,
@@ -33,7 +35,7 @@ pub struct PacketResultsSummary {
 }
 
 // A summary, and the number of the refusal: 0 if there is none, and zeros beside any other.
-#[derive(Drop)]
+#[derive(Clone, Copy)]
 pub struct SummaryAnswer {
     pub summary: PacketResultsSummary,
     pub refusal: u8,

@@ -9,7 +9,7 @@ use bandwidth::{Bitrate, OptionBitrate};
 use loss_controller::{ControllerAnswer, LossController, OptionInstant};
 
 // A call that takes a rate.
-#[derive(Drop)]
+#[derive(Clone, Copy)]
 pub(crate) enum Call {
     Estimate,
     Acknowledged,

@@ -4,6 +4,8 @@
 // after it or which of its parts changed; after a call that is taken, what the controller holds.
 // The last line counts the cases, and those that got another code or did not hand the controller
 // back. All of it comes twice, by bytes and by packets.
+#![tactic(auto)]
+
 mod calls;
 mod controllers;
 mod limits;

@@ -9,7 +9,7 @@ use packets::PacketSize;
 
 // A report. Its packets were sent at `time`, have `size` bytes and arrived, but for those at the
 // places `odd_time_at`, `odd_size_at` and `odd_flag_at`.
-#[derive(Drop)]
+#[derive(Clone, Copy)]
 pub(crate) struct Report {
     pub(crate) times: usize,
     pub(crate) sizes: usize,

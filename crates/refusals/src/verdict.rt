@@ -4,7 +4,7 @@ use comparison::Changes;
 use loss_controller::{ControllerAnswer, LossController};
 
 // The cases so far, and the profile of the controllers that they are put to.
-#[derive(Drop)]
+#[derive(Clone, Copy)]
 pub(crate) struct Tally {
     pub(crate) use_byte_loss_ratio: bool,
     pub(crate) cases: u64,

@@ -6,7 +6,7 @@ use integer::{IntegerAnswer, Ordering};
 use time::{TimeDelta, TimeDeltaAnswer, Timestamp, TimestampAnswer};
 
 // What a call answers: the refusal, and the result as 64 bits.
-#[derive(Drop)]
+#[derive(Clone, Copy)]
 pub(crate) struct Answer {
     pub(crate) refusal: u8,
     pub(crate) result: u64,

@@ -1,6 +1,8 @@
 // Replays stored calls of the controller. A line of standard input is a call, in hexadecimal, and is
 // answered by its refusal and what the controller reads after it. oracle/README.md has the fields in
 // their order, and says how the stored answers were made.
+#![tactic(auto)]
+
 use bandwidth::OptionBitrate;
 use libc::{STDIN_FILENO, STDOUT_FILENO};
 use loss_controller::{ControllerAnswer, LossController, OptionInstant};
@@ -10,7 +12,7 @@ use packets::{PacketResult, PacketSize};
 const PLACES: usize = 4_096;
 
 // A line of the input, if there is a whole one
-#[derive(Drop)]
+#[derive(Clone, Copy)]
 struct Call {
     is_whole: bool,
     kind: u64,
@@ -20,7 +22,7 @@ struct Call {
 }
 
 // The controller and the number of packets in the queue after a call, and the call's refusal
-#[derive(Drop)]
+#[derive(Clone, Copy)]
 struct Answer {
     controller: LossController,
     queued: usize,

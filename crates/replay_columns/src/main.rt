@@ -1,6 +1,8 @@
 // Replays stored calls of the column writer. A line of standard input is a width and a number, in
 // hexadecimal, and is answered by the number in a column of so many places. tools/columns.py made the
 // stored lines and what they are answered, and holds the program to fresh ones.
+#![tactic(auto)]
+
 ghost use Rattle.std.specs.Prelude.{◌<◌, length};
 
 use libc::{STDIN_FILENO, STDOUT_FILENO};

@@ -2,6 +2,8 @@
 // buffer, in hexadecimal: which call it is, its rate or time, lost, size and length. It is answered
 // by the refusal in two columns, a space, the buffer, which was all dots, and a newline.
 // oracle/write_calls.sh made the stored calls and their answers.
+#![tactic(auto)]
+
 use call_line::Call;
 use libc::{STDIN_FILENO, STDOUT_FILENO};
 use packets::PacketSize;

@@ -1,6 +1,8 @@
 // Replays stored calls of the logarithm, the power and the weights. A line of standard input is a
 // letter and one or two operands, in hexadecimal, and is answered by the refusal and the result's
 // bits. oracle/README.md says what the letters are and how the stored answers were made.
+#![tactic(auto)]
+
 use float::FloatAnswer;
 use libc::{STDIN_FILENO, STDOUT_FILENO};
 

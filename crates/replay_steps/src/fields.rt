@@ -9,7 +9,7 @@ use packets::PacketResultsSummary;
 use time::Timestamp;
 
 // What the setters and the report set.
-#[derive(Drop)]
+#[derive(Clone, Copy)]
 pub(crate) struct Settings {
     pub(crate) acknowledged_bitrate: Bitrate,
     pub(crate) delay_based_estimate: Bitrate,

@@ -2,6 +2,8 @@
 // report's totals, in hexadecimal, and is answered by what each step answers there, and by the state
 // after the report. oracle/README.md has the fields in their order, and says how the stored answers
 // were made.
+#![tactic(auto)]
+
 mod fields;
 mod print;
 mod report;

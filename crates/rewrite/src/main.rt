@@ -1,5 +1,7 @@
 // Writes a call list anew: standard input to standard output, chunk by chunk. A line that is taken
 // comes back as `call_line` writes its call, one that is refused as the number of its refusal.
+#![tactic(auto)]
+
 ghost use Rattle.std.specs.Prelude.{◌+◌, ◌*◌, ◌≤◌, ◌≡◌, length};
 ghost use Rattle.call_line.specs.Write.{line_text, line_bytes, write_refusal};
 ghost use Rattle.call_list.specs.Feed.{kept};
@@ -19,7 +21,7 @@ const CHUNK: usize = 16_384;
 const ROOM: usize = CHUNK * TEXT;
 
 // What a chunk leaves: the line so far, and how much is written.
-#[derive(Drop)]
+#[derive(Clone, Copy)]
 struct Fed {
     line: [u8; KEPT],
     len: usize,
@@ -27,7 +29,7 @@ struct Fed {
 }
 
 // The last turn: what its read answered, whether its write took all, and how much that was.
-#[derive(Drop)]
+#[derive(Clone, Copy)]
 struct Stop {
     got: isize,
     wrote: bool,

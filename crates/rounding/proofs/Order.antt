@@ -29,6 +29,12 @@ under_of_not_lt {x} {y} p q h = record { left = q; right = p; below = ltb-false 
 
 cross_of_le : (x y : Float) → T (plain x) → T (plain y) → T (le x y) → num x * den y ≤ num y * den x
 unfolding le
+cross_of_le lib.Ieee.nan y p q = elim p [ ]
+cross_of_le (lib.Ieee.inf _) y p q = elim p [ ]
+cross_of_le (fin false m e) lib.Ieee.nan p q = elim q [ ]
+cross_of_le (fin false m e) (lib.Ieee.inf _) p q = elim q [ ]
+cross_of_le (fin false m e) (fin true n d) p q = elim q [ ]
+cross_of_le (fin true m e) y p q = elim p [ ]
 cross_of_le (fin false m e) (fin false n d) p q = go (ltb a b) (eqb a b) (ltb→lt a b) (eqb→eq a b)
   where
     a : ℕ
@@ -39,6 +45,7 @@ cross_of_le (fin false m e) (fin false n d) p q = go (ltb a b) (eqb a b) (ltb→
 
     go : (s t : Bool) → (T s → a < b) → (T t → a ≡ b) → T (s || (t && true)) → a ≤ b
     go true t h k u = let l = h tt in omega arith
+    go false false h k u = elim u [ ]
     go false true h k u = le_of_eq (k tt)
 
 -- ---- what is kept

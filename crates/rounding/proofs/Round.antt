@@ -63,6 +63,8 @@ pub record Near (k : ℕ) (x : Float) (p q : ℕ) : Type 0 where
   pub parts : Within k (num x * q) (p * den x)
 
 plain_of_value : (x : Float) (a c : ℕ) → HasValue x false a c → T (plain x)
+plain_of_value lib.Ieee.nan a c h = elim h [ ]
+plain_of_value (lib.Ieee.inf _) a c h = elim h [ ]
 plain_of_value (fin true m e) a c h = absurd (true≢false h.0)
 plain_of_value (fin false m e) a c h = tt
 

@@ -16,6 +16,8 @@ use Rattle.rounding.proofs.Operations.{sub_is, div_is, lt_is, eq_zero}
 
 -- a finite one is plain
 pub upward_plain : (x : Float) → T (upward x) → T (finite x) → T (plain x)
+upward_plain nan u f = elim u [ ]
+upward_plain (inf _) u f = elim f [ ]
 upward_plain (fin s m e) u f = u
 
 plain_sub : (x y : Float) → T (plain x) → T (plain y) → lt y x ≡ true → NotNegative (x ⊖ y)
@@ -26,6 +28,14 @@ plain_sub x y p q l =
 -- a float less one that is not negative and below it
 pub sub_not_negative : (x y : Float) → T (plain y) → lt y x ≡ true → NotNegative (x ⊖ y)
 unfolding sub add neg
+sub_not_negative nan nan p l = elim p [ ]
+sub_not_negative nan (inf _) p l = elim p [ ]
+sub_not_negative (inf false) nan p l = elim p [ ]
+sub_not_negative (inf false) (inf _) p l = elim p [ ]
+sub_not_negative (inf true) nan p l = elim p [ ]
+sub_not_negative (inf true) (inf _) p l = elim p [ ]
+sub_not_negative (fin t n d) nan p l = elim p [ ]
+sub_not_negative (fin t n d) (inf _) p l = elim p [ ]
 sub_not_negative nan (fin s m e) p l = absurd (above_upward (fin s m e) nan p l)
 sub_not_negative (inf true) (fin s m e) p l = absurd (above_upward (fin s m e) (inf true) p l)
 sub_not_negative (inf false) (fin s m e) p l = inf_not_negative
@@ -39,5 +49,8 @@ pub div_not_negative : (x y : Float) → T (plain x) → NotNegative y → eq y 
 unfolding div
 div_not_negative x nan p n z = absurd n.above
 div_not_negative x (inf true) p n z = absurd n.above
+div_not_negative nan (inf false) p n z = elim p [ ]
+div_not_negative (inf _) (inf false) p n z = elim p [ ]
+div_not_negative (fin true m e) (inf false) p n z = elim p [ ]
 div_not_negative (fin false m e) (inf false) p n z = record { holds = div-fits binary64 (fin false m e) (inf false); above = tt }
 div_not_negative x (fin s k d) p n z = plain_div x (fin s k d) p n.above z

@@ -1,4 +1,6 @@
 // Rates and times as the stored files of the replay programs have them, in fields of 64 bits.
+#![tactic(auto)]
+
 ghost use Rattle.std.specs.Prelude.{◌≡◌};
 ghost use Rattle.stored_fields.specs.Fields as Fields;
 

@@ -1,6 +1,8 @@
 // The thin forms of the report beside the call by value, on one controller of each profile, report
 // after report. A line has the call's refusal, and whether each form answered the same and left the
 // same behind.
+#![tactic(auto)]
+
 ghost use Rattle.std.specs.Prelude.{◌≡◌};
 ghost use Rattle.loss_controller.specs.Report.{update_bandwidth_estimate};
 ghost use Rattle.lent.specs.Records.{update_records};

@@ -1,5 +1,5 @@
 -- Time differences: what `TimeDelta` of time.rs answers. Definitions only.
-use Rattle.core.specs.Prelude.{ℕ, ◌+◌, ◌-◌, ◌*◌, true, false, cond, ℤ, pos, ◌==◌, int_le, nat_lt, unsigned_abs}
+use Rattle.std.specs.Prelude.{ℕ, ◌+◌, ◌-◌, ◌*◌, true, false, cond, ℤ, pos, ◌==◌, int_le, nat_lt, unsigned_abs}
 use Rattle.std.specs.Prelude.{Float}
 use Rattle.std.specs.Float.{inf}
 use Rattle.std.specs.Float.Ieee.{neg}

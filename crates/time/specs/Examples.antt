@@ -1,5 +1,5 @@
 -- Worked examples of the definitions beside this file, which antt computes. They test the definitions; no proof cites them.
-use Rattle.core.specs.Prelude.{◌≡◌, ℕ, ◌+◌, ◌-◌, ◌^◌, List, [], ◌∷◌, map, pos, negsuc}
+use Rattle.std.specs.Prelude.{◌≡◌, ℕ, ◌+◌, ◌-◌, ◌^◌, List, [], ◌∷◌, map, pos, negsuc}
 use Rattle.std.specs.Prelude.{refl}
 use Rattle.std.specs.Float.Ieee.{add, div, eq, in_float, mul, neg, of_bits, of_int}
 use Rattle.float.specs.Rounded.{bits}

@@ -1,5 +1,5 @@
 -- What a comparison says of ==, <, <=, > and >= (core::cmp::Ordering's is_eq, is_lt, is_le, is_gt, is_ge). Definitions only.
-use Rattle.core.specs.Prelude.{Bool, true, false}
+use Rattle.std.specs.Prelude.{Bool, true, false}
 use Rattle.integer.specs.declared.Ordering.{Ordering}
 use Rattle.integer.specs.declared.Ordering.TheVariants.{Less, Equal, Greater}
 

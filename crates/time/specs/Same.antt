@@ -1,6 +1,6 @@
 -- Rust derives PartialEq: two values are equal where they are the same. That is where the order says Equal, and there alone.
 -- Assumes nothing.
-use Rattle.core.specs.Prelude.{◌≡◌, ℕ, Bool, true, false, cond, pos, nat_lt}
+use Rattle.std.specs.Prelude.{◌≡◌, ℕ, Bool, true, false, cond, pos, nat_lt}
 use Rattle.std.specs.Prelude.{refl}
 use Rattle.std.proofs.Common.{sym, ap, arith, ltb-false, le-ltb}
 use Rattle.integer.specs.Fitted.{ordered}

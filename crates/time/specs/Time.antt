@@ -1,5 +1,5 @@
 -- Times: what `Timestamp` of time.rs answers. Definitions only.
-use Rattle.core.specs.Prelude.{◌+◌, Bool, true, false, pos}
+use Rattle.std.specs.Prelude.{◌+◌, Bool, true, false, pos}
 use Rattle.integer.specs.Fitted.{ordered}
 use Rattle.integer.specs.declared.Ordering.{Ordering}
 use Rattle.integer.specs.declared.Ordering.TheVariants.{Less, Equal, Greater}

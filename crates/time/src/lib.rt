@@ -1,6 +1,8 @@
 // Times and their differences: src/bwe/time.rs. Operators are named functions, and AddAssign and
 // SubAssign are those of Add and Sub. An instant is a number of ns.
-ghost use Rattle.core.specs.Prelude.{◌≡◌, ◌+◌, ◌*◌, ◌<◌, pos};
+#![tactic(auto)]
+
+ghost use Rattle.std.specs.Prelude.{◌≡◌, ◌+◌, ◌*◌, ◌<◌, pos};
 ghost use Rattle.integer.specs.Fitted.{ordered};
 ghost use Rattle.duration.specs.Nanos as Nanos;
 ghost use Rattle.time.specs.Order.{is_eq, is_lt, is_le, is_gt, is_ge};
@@ -12,7 +14,7 @@ use duration::{Duration, DurationAnswer};
 use integer::Ordering;
 
 // An instant, or a time before or after all of them.
-#[derive(Drop)]
+#[derive(Clone, Copy)]
 pub enum Timestamp {
     // A time in the past that already happened.
     DistantPast,
@@ -24,7 +26,7 @@ pub enum Timestamp {
 
 // A duration that can be negative, or one to a distant past or future. Negative zero is a value of
 // its own.
-#[derive(Drop)]
+#[derive(Clone, Copy)]
 pub enum TimeDelta {
     // To some event in the distant past that already happened.
     NegativeInfinity,
@@ -37,14 +39,14 @@ pub enum TimeDelta {
 }
 
 // A time, and the number of the refusal: 0 if there is none, and Exact(0) beside any other.
-#[derive(Drop)]
+#[derive(Clone, Copy)]
 pub struct TimestampAnswer {
     pub time: Timestamp,
     pub refusal: u8,
 }
 
 // A difference, and the number of the refusal: 0 if there is none, and ZERO beside any other.
-#[derive(Drop)]
+#[derive(Clone, Copy)]
 pub struct TimeDeltaAnswer {
     pub delta: TimeDelta,
     pub refusal: u8,

@@ -1,7 +1,7 @@
 -- `integer::checked_sub` meets its contract. Assumes nothing.
 use mathlib.Core.Path.{sym, ◌∙◌}
 use borrow.Author.Rules.{rules}
-use Rattle.core.specs.Prelude.{◌-ℤ◌}
+use Rattle.std.specs.Prelude.{◌-ℤ◌}
 use Rattle.integer.proofs.Signed.{in_fits, op_answered, op_refused}
 use Rattle.integer.proofs.checked_sub.Statement.{statement}
 use Rattle.integer.proofs.checked_sub.Tie as tie

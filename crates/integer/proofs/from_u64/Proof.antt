@@ -1,5 +1,5 @@
 -- `integer::from_u64` meets its contract. Assumes nothing.
-use Rattle.core.specs.Prelude.{◌^◌}
+use Rattle.std.specs.Prelude.{◌^◌}
 use native.Mathlib.Omega.{arith}
 use borrow.Author.Rules.{rules}
 use borrow.Author.Tests.{le-ltb}

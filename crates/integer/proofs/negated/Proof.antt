@@ -1,7 +1,7 @@
 -- `integer::negated` meets its contract. Assumes nothing.
 use native.Mathlib.Omega.{arith}
 use borrow.Author.Rules.{rules}
-use Rattle.core.specs.Prelude.{pos, neg_ℤ}
+use Rattle.std.specs.Prelude.{pos, neg_ℤ}
 use lib.IntN.{+ℤ_idl}
 use mir.Syntax.{w64}
 use mir.ValLaws.{to_z_pos}
