@@ -24,7 +24,7 @@ to-bits-requires c κs = search rules
 returns : tie.Need-returns
 unfolding reading_of
 returns c =
-    rw (c.to-bits.ensures, c.before.inherent_loss_lem.ensures, c.before.before.rate-bits.ensures)
+    rw (c.to-bits.ensures, c.before.inherent_loss.ensures, c.before.before.rate-bits.ensures)
     (rw (c.before.before.before.published.ensures, c.before.before.before.before.number.ensures)
     (rw c.before.before.before.before.before.loss-based-result.ensures))
 

@@ -12,7 +12,7 @@ at-most-requires c κs = search rules
 
 returns : tie.Need-returns
 unfolding size_of
-returns c = c.at_most_lem.ensures ∙ ap (at_most _) c.before.read_number.ensures
+returns c = c.at_most.ensures ∙ ap (at_most _) c.before.read_number.ensures
 
 pub read-size-spec : {M : Type 1} → statement M
 read-size-spec = tie.close (tie.spec read-number-requires at-most-requires returns)

@@ -12,7 +12,7 @@ at-most-requires : tie.Need-at-most-requires
 at-most-requires c κs = search rules
 
 returns : tie.Need-returns
-returns c = c.at_most_lem.ensures ∙ ap (at_most _) c.before.read-seconds.ensures ∙ bounded _
+returns c = c.at_most.ensures ∙ ap (at_most _) c.before.read-seconds.ensures ∙ bounded _
 
 pub read-time-spec : {M : Type 1} → statement M
 read-time-spec = tie.close (tie.spec read-seconds-requires at-most-requires returns)

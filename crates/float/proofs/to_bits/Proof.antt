@@ -1,6 +1,6 @@
 -- `float::to_bits` meets its contract: at a NaN the library writes the same pattern. Assumes nothing.
 use Rattle.std.proofs.Common.{rules}
-use Rattle.float.proofs.Limits.{nan_bits, not_nan}
+use Rattle.float.proofs.Limits.{nan_bits_lem, not_nan}
 use Rattle.float.proofs.to_bits.Statement.{statement}
 use Rattle.float.proofs.to_bits.Tie as tie
 
@@ -8,10 +8,10 @@ is-nan-requires : tie.Need-is-nan-requires
 is-nan-requires c κs = search rules
 
 returns : tie.Need-returns
-returns c = nan_bits _ (rw c.before.is_nan_lem.ensures at c.if1.true)
+returns c = nan_bits_lem _ (rw c.before.is_nan.ensures at c.if1.true)
 
 float-to-bits-result : tie.Need-float-to-bits-result
-float-to-bits-result c = not_nan _ (rw c.before.is_nan_lem.ensures at c.if1.false)
+float-to-bits-result c = not_nan _ (rw c.before.is_nan.ensures at c.if1.false)
 
 returns-2 : tie.Need-returns-2
 returns-2 c = search rules

@@ -22,13 +22,13 @@ returns-3 : tie.Need-returns-3
 unfolding safe
 returns-3 c =
     let b = c.before.before in
-    rw (← b.before.before.is_sign_negative.ensures, b.before.if1.false, b.if2.false, ← c.before.is_nan_lem.ensures, c.if3.true)
+    rw (← b.before.before.is_sign_negative.ensures, b.before.if1.false, b.if2.false, ← c.before.is_nan.ensures, c.if3.true)
 
 returns-4 : tie.Need-returns-4
 unfolding safe
 returns-4 c =
     let b = c.before.before in
-    rw (← b.before.before.is_sign_negative.ensures, b.before.if1.false, b.if2.false, ← c.before.is_nan_lem.ensures, c.if3.false)
+    rw (← b.before.before.is_sign_negative.ensures, b.before.if1.false, b.if2.false, ← c.before.is_nan.ensures, c.if3.false)
 
 pub safe-second-derivative-spec : {M : Type 1} → statement M
 safe-second-derivative-spec =
