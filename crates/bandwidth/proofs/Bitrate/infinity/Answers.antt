@@ -1,0 +1,6 @@
+-- `Bitrate::infinity` meets its contract. Assumes nothing.
+use Rattle.std.proofs.Common.{rules}
+use Rattle.bandwidth.proofs.Bitrate.infinity.Goals as goal
+
+pub returns : goal.returns
+returns c = rw c.infinity-bps.ensures

@@ -1,0 +1,11 @@
+-- `Bitrate::mul_duration` meets its contract. Assumes nothing.
+use Rattle.std.proofs.Common.{rules}
+use Rattle.bandwidth.proofs.Field.{field}
+use Rattle.bandwidth.specs.Rate.{carried}
+use Rattle.bandwidth.proofs.Bitrate.mul_duration.Goals as goal
+
+pub returns : goal.returns
+unfolding carried
+returns c =
+    let i = c.as_i64 in
+    rw (← c.as_secs_f64.ensures, ← c.round-rounded.ensures, c.bytes.ensures, field i.result i.type-inv, i.ensures)

@@ -1,0 +1,8 @@
+-- `Bitrate::mul_f64` meets its contract. Assumes nothing.
+use Rattle.std.proofs.Common.{rules}
+use Rattle.bandwidth.specs.Rate.{times}
+use Rattle.bandwidth.proofs.Bitrate.mul_f64.Goals as goal
+
+pub returns : goal.returns
+unfolding times
+returns c = rw (c.limited.ensures, c.are_finite.ensures)

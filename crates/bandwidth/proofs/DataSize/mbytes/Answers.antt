@@ -1,0 +1,7 @@
+-- `DataSize::mbytes` meets its contract. Assumes nothing.
+use Rattle.std.proofs.Common.{rules}
+use Rattle.bandwidth.proofs.Field.{field}
+use Rattle.bandwidth.proofs.DataSize.mbytes.Goals as goal
+
+pub returns : goal.returns
+returns c = rw (c.sized.ensures, c.checked_mul.ensures, field _ c.ranges.mbytes.sfits)

@@ -1,0 +1,11 @@
+-- `word_start` meets its contract. Assumes nothing.
+use Rattle.std.proofs.Common.{◌≡◌, ◌-◌, ◌≤◌, not, length, sym, refl, ap, ◌∙◌, arith, rules}
+use Rattle.call_words.specs.Words.{is_other}
+use Rattle.call_words.proofs.Scanning.{place, place_here, place_on, place_end}
+use Rattle.call_words.proofs.word_start.Given as goal
+
+abbrev pub invariant-loop-i : goal.invariant-loop-i
+invariant-loop-i l = (l.i ≤ length l.line) × (place is_other l.line l.from ≡ place is_other l.line l.i)
+
+abbrev pub decreases-loop-i : goal.decreases-loop-i
+decreases-loop-i l = length l.line - l.i

@@ -1,0 +1,8 @@
+-- `same_rate` is its definition, call by call. Assumes nothing.
+use borrow.Author.Rules.{rules}
+use Rattle.comparison.specs.Same as Same
+use Rattle.comparison.proofs.same_rate.Goals as goal
+
+pub returns : goal.returns
+unfolding Same.rate
+returns c = cc

@@ -1,0 +1,20 @@
+-- `nearest_of_parts` meets its contract: each of its three answers is one law on the half of a ns that the rest is in. Assumes nothing.
+use Rattle.std.proofs.Common.{⊎_elim, arith, rules}
+use Rattle.duration.proofs.Nanos.{units_small, rounds_down, rounds_even, rounds_up}
+use Rattle.duration.proofs.nearest_of_parts.Goals as goal
+
+pub returns-then-part-half : goal.returns-then-part-half
+returns-then-part-half c = rounds_down _ _ c.if-part-half.true
+
+pub overflow_add-result : goal.overflow_add-result
+overflow_add-result c = let p = c.requires in omega (arith, units_small _ _ p.0 p.1)
+
+pub returns-then-over-eq0 : goal.returns-then-over-eq0
+returns-then-over-eq0 c = rounds_even _ _ c.if-part-half-2.true c.if-over-eq0.true
+
+pub overflow_add-result-2 : goal.overflow_add-result-2
+overflow_add-result-2 c = let p = c.requires in omega (arith, units_small _ _ p.0 p.1)
+
+-- look a join
+pub returns : goal.returns
+returns c = rounds_up _ _ (⊎_elim (λ w. omega arith) (λ w. omega arith) c.if-part-half-2.branch)

@@ -1,0 +1,8 @@
+-- `Estimator::held` meets its contract. Assumes nothing.
+use borrow.Author.Rules.{rules}
+use Rattle.estimator.specs.Update.{held}
+use Rattle.estimator.proofs.Estimator.held.Goals as goal
+
+pub returns : goal.returns
+unfolding held
+returns c = rw (← c.min.ensures)

@@ -1,0 +1,6 @@
+-- `HoldInfo::default` meets its contract. Assumes nothing.
+use borrow.Author.Rules.{rules}
+use Rattle.estimator.proofs.HoldInfo.default.Goals as goal
+
+pub returns : goal.returns
+returns c = rw c.infinity.ensures

@@ -1,0 +1,8 @@
+-- `adjust_bias_factor` meets its contract. Assumes nothing.
+use borrow.Author.Rules.{rules}
+use Rattle.likelihood.specs.Bias.{adjusted}
+use Rattle.likelihood.proofs.adjust_bias_factor.Goals as goal
+
+pub returns : goal.returns
+unfolding adjusted
+returns c = rw (← c.abs.ensures)

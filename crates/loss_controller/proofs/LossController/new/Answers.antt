@@ -1,0 +1,6 @@
+-- `LossController::new` meets its contract. Assumes nothing.
+use borrow.Author.Rules.{rules}
+use Rattle.loss_controller.proofs.LossController.new.Goals as goal
+
+pub returns : goal.returns
+returns c = c.with_profile.ensures

@@ -1,0 +1,6 @@
+-- `LossController::with_profile` meets its contract. Assumes nothing.
+use borrow.Author.Rules.{rules}
+use Rattle.loss_controller.proofs.LossController.with_profile.Goals as goal
+
+pub returns : goal.returns
+returns c = rw (c.infinity-2.ensures, c.infinity.ensures, c.new-2.ensures, c.new.ensures)

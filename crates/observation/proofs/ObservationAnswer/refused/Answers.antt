@@ -1,0 +1,6 @@
+-- `observation::ObservationAnswer::refused` meets its contract. Assumes nothing.
+use Rattle.std.proofs.Common.{rules}
+use Rattle.observation.proofs.ObservationAnswer.refused.Goals as goal
+
+pub returns : goal.returns
+returns c = rw c.dummy.ensures

@@ -1,0 +1,21 @@
+-- `observation::Observations::loss_sums` meets its contract. The loop's invariant: the slots that are left, added to the sums so far, give the whole.
+-- Assumes nothing.
+use Rattle.std.proofs.Common.{◌≡◌, ◌-◌, ◌<◌, ◌≤◌, length, drop, refl, arith, rules}
+use mathlib.Core.List.{foldl}
+use lib.ListN.{length-map}
+use Rattle.float.proofs.Fold.{fold_again, fold_end}
+use Rattle.observation.specs.Steps.{summed}
+use Rattle.observation.proofs.Observations.loss_sums.Goals as goal
+
+pub loop-i-init : goal.loop-i-init
+loop-i-init c = (search rules, simp length-map at c.well_formed.0.1.1.1.1.1.1.0.1.0.1, refl)
+
+pub loop-i-preserved : goal.loop-i-preserved
+loop-i-preserved c =
+    let i : c.loop-i.i < length c.args.self.observations = omega (arith, c.loop-i.invariant.1) in
+    (search rules, c.loop-i.invariant.1, fold_again _ _ _ _ _ _ _ i c.add-sums.ensures c.loop-i.invariant.2)
+
+pub returns : goal.returns
+returns c =
+    let o = c.args.self in
+    fold_end (summed o.use_byte_loss_ratio o.num_observations) _ _ _ c.loop-i.i (omega (arith, c.loop-i.invariant.1)) c.loop-i.invariant.2

@@ -1,0 +1,8 @@
+-- `observation::Observations::store` meets its contract. Assumes nothing.
+use Rattle.std.proofs.Common.{rules}
+use Rattle.observation.specs.Window.{stored}
+use Rattle.observation.proofs.Observations.store.Goals as goal
+
+pub returns : goal.returns
+unfolding stored
+returns c = rw (← c.new.ensures)

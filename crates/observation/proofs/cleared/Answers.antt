@@ -1,0 +1,8 @@
+-- `observation::cleared` meets its contract. Assumes nothing.
+use Rattle.std.proofs.Common.{rules}
+use Rattle.observation.specs.Window.{cleared}
+use Rattle.observation.proofs.cleared.Goals as goal
+
+pub returns : goal.returns
+unfolding cleared
+returns c = rw (c.new.ensures, c.dummy-dummy.ensures)

@@ -1,0 +1,6 @@
+-- `rate` is its definition. Assumes nothing.
+use borrow.Author.Rules.{rules}
+use Rattle.stored_fields.proofs.rate.Goals as goal
+
+pub returns : goal.returns
+returns c = cc

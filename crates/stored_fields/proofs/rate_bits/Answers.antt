@@ -1,0 +1,6 @@
+-- `rate_bits` is its definition. Assumes nothing.
+use borrow.Author.Rules.{rules}
+use Rattle.stored_fields.proofs.rate_bits.Goals as goal
+
+pub returns : goal.returns
+returns c = cc

@@ -1,0 +1,6 @@
+-- `TimeDelta::ge` meets its contract. Assumes nothing.
+use borrow.Author.Rules.{rules}
+use Rattle.time.proofs.TimeDelta.ge.Goals as goal
+
+pub returns : goal.returns
+returns c = rw (← c.cmp.ensures, ← c.is_ge.ensures)

@@ -1,0 +1,6 @@
+-- `Timestamp::le` meets its contract. Assumes nothing.
+use borrow.Author.Rules.{rules}
+use Rattle.time.proofs.Timestamp.le.Goals as goal
+
+pub returns : goal.returns
+returns c = rw (← c.cmp.ensures, ← c.is_le.ensures)

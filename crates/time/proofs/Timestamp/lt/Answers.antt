@@ -1,0 +1,6 @@
+-- `Timestamp::lt` meets its contract. Assumes nothing.
+use borrow.Author.Rules.{rules}
+use Rattle.time.proofs.Timestamp.lt.Goals as goal
+
+pub returns : goal.returns
+returns c = rw (← c.cmp.ensures, ← c.is_lt.ensures)

@@ -1,0 +1,8 @@
+-- `Timestamp::sub_delta` meets its contract. Assumes nothing.
+use borrow.Author.Rules.{rules}
+use Rattle.time.specs.Time.{minus}
+use Rattle.time.proofs.Timestamp.sub_delta.Goals as goal
+
+pub returns : goal.returns
+unfolding minus
+returns c = rw (← c.negated.ensures, ← c.add_delta.ensures)

@@ -1,0 +1,8 @@
+-- `time::div_time_delta` meets its contract. Assumes nothing.
+use borrow.Author.Rules.{rules}
+use Rattle.time.specs.Delta.{rate}
+use Rattle.time.proofs.div_time_delta.Goals as goal
+
+pub returns : goal.returns
+unfolding rate
+returns c = rw (c.over_seconds.ensures, c.as_secs_f64.ensures)
