@@ -75,7 +75,7 @@ returns c =
     let k : c.loop-k.k ≡ 4 = omega arith in
     let f : c.loop-k.from ≡ total wide = c.loop-k.invariant.1 ∙ ap (start wide) k in
     let all = subst (FirstColumns (out₀ c.before) v.result c.loop-k.out) k c.loop-k.invariant.3 in
-    accepted _ (out₀ c.before) _ (of_type _ v.result _ _ v.ensures v.type-inv)
+    accepted _ (out₀ c.before) _ (of_type _ v.result _ _ v.ensures v.type_inv)
     (sym c.if-refusal-ne0.false ∙ c.call_refusal-refusal.ensures) (room c.before)
     (ap (λ (n : ℕ). set c.loop-k.out n ascii_newline) f
     ∙ newline_laid (out₀ c.before) v.result c.loop-k.out (four c.before) (room c.before) all

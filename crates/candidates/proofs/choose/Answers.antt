@@ -11,9 +11,6 @@ use Rattle.float.proofs.Fold.{fold_again_take, fold_end}
 use Rattle.candidates.specs.Choice.{better, choice}
 use Rattle.candidates.proofs.choose.Goals as goal
 
-pub loop-i-init : goal.loop-i-init
-loop-i-init c = (omega arith, simp length-map at c.well_formed.1.1.0.1.1.0.1.0.1, refl)
-
 pub loop-i-preserved : goal.loop-i-preserved
 loop-i-preserved c =
     let n = c.used-used.result in (

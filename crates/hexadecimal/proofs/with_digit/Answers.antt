@@ -5,4 +5,4 @@ use Rattle.hexadecimal.proofs.with_digit.Goals as goal
 
 pub returns : goal.returns
 unfolding with_digit
-returns c = rw c.digit.ensures.0
+returns c = rw c.digit.ensures.value

@@ -8,4 +8,4 @@ pub returns : goal.returns
 unfolding carried
 returns c =
     let i = c.as_i64 in
-    rw (← c.as_secs_f64.ensures, ← c.round-rounded.ensures, c.bytes.ensures, field i.result i.type-inv, i.ensures)
+    rw (← c.as_secs_f64.ensures, ← c.round-rounded.ensures, c.bytes.ensures, field i.result i.type_inv, i.ensures)

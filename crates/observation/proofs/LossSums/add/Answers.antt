@@ -21,14 +21,14 @@ returns-then-refusal-ne0 c =
     rw (
       eq-eqb _ _ c.if-before-ne0.false,
       not-false a.observation.is_initialized c.if-not-observation.false,
-      not_counted a.use-byte-loss-ratio a.observation c.counts-counts.ensures c.if-refusal-ne0.true,
+      not_counted a.use_byte_loss_ratio a.observation c.counts-counts.ensures c.if-refusal-ne0.true,
     )
 
 pub returns : goal.returns
 unfolding summed
 returns c =
     let a = c.args in
-    let n = counted a.use-byte-loss-ratio a.observation c.counts-counts.ensures c.if-refusal-ne0.false in
+    let n = counted a.use_byte_loss_ratio a.observation c.counts-counts.ensures c.if-refusal-ne0.false in
     rw (
       eq-eqb _ _ c.if-before-ne0.false,
       not-false a.observation.is_initialized c.if-not-observation.false,

@@ -7,9 +7,6 @@ use Rattle.float.proofs.Fold.{fold_again, fold_end}
 use Rattle.observation.specs.Steps.{summed}
 use Rattle.observation.proofs.Observations.loss_sums.Goals as goal
 
-pub loop-i-init : goal.loop-i-init
-loop-i-init c = (search rules, simp length-map at c.well_formed.0.1.1.1.1.1.1.0.1.0.1, refl)
-
 pub loop-i-preserved : goal.loop-i-preserved
 loop-i-preserved c =
     let i : c.loop-i.i < length c.args.self.observations = omega (arith, c.loop-i.invariant.1) in

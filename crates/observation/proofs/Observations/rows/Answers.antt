@@ -8,9 +8,6 @@ use Rattle.observation.specs.Rows.{row_of, rows}
 use Rattle.observation.proofs.Rows.{slot_row, read_again, not_read, all_read, fill_again, fill_end}
 use Rattle.observation.proofs.Observations.rows.Goals as goal
 
-pub loop-slot-init : goal.loop-slot-init
-loop-slot-init c = (search rules, simp length-map at c.well_formed.0.1.1.1.1.1.1.0.1.0.1, refl, refl, refl)
-
 pub returns-then-refusal-ne0 : goal.returns-then-refusal-ne0
 unfolding rows
 returns-then-refusal-ne0 c =
