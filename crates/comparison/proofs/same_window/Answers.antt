@@ -30,13 +30,10 @@ module _ (xs ys : List Observation) (i : ℕ) where
   unfolding Same.window
   ended t h k p = rw (drop_of_length-le xs h, drop_of_length-le ys k) at p
 
-pub loop-slot-init : goal.loop-slot-init
-loop-slot-init c = (search rules, c.well_formed.0.1.0.1, c.well_formed.1.0.1.0.1, refl)
-
 pub returns-then-not-same_observation : goal.returns-then-not-same_observation
 returns-then-not-same_observation c =
     let a = c.args in
-    differs a.t1 a.t2 c.loop-slot.slot _ _ _ (omega (arith, c.loop-slot.invariant.1)) (omega (arith, c.loop-slot.invariant.2)) c.same_observation.ensures
+    differs a.window a.other_window c.loop-slot.slot _ _ _ (omega (arith, c.loop-slot.invariant.1)) (omega (arith, c.loop-slot.invariant.2)) c.same_observation.ensures
     c.if-not-same_observation.true c.loop-slot.invariant.3
 
 pub loop-slot-preserved : goal.loop-slot-preserved
@@ -45,11 +42,11 @@ loop-slot-preserved c =
       search rules,
       c.loop-slot.invariant.1,
       c.loop-slot.invariant.2,
-      again a.t1 a.t2 c.loop-slot.slot _ _ _ (omega (arith, c.loop-slot.invariant.1)) (omega (arith, c.loop-slot.invariant.2)) c.same_observation.ensures
+      again a.window a.other_window c.loop-slot.slot _ _ _ (omega (arith, c.loop-slot.invariant.1)) (omega (arith, c.loop-slot.invariant.2)) c.same_observation.ensures
           c.if-not-same_observation.false c.loop-slot.invariant.3,
     )
 
 pub returns : goal.returns
 returns c =
     let a = c.args in
-    ended a.t1 a.t2 c.loop-slot.slot _ (omega (arith, c.loop-slot.invariant.1)) (omega (arith, c.loop-slot.invariant.2)) c.loop-slot.invariant.3
+    ended a.window a.other_window c.loop-slot.slot _ (omega (arith, c.loop-slot.invariant.1)) (omega (arith, c.loop-slot.invariant.2)) c.loop-slot.invariant.3
