@@ -1,3 +1,3 @@
 pub mod Records
-pub mod Thin
 pub mod Covered
+mod Examples

@@ -1,3 +1,2 @@
 pub mod Records
 pub mod Covered
-mod Examples
