@@ -36,4 +36,12 @@ if command -v rustc >/dev/null 2>&1; then
 else
     echo "no rustc: the oracle is skipped"
 fi
-exec rt ci
+mkdir -p target
+# rt passes an edit that it cannot apply or read; here it fails.
+rt ci >target/ci.log 2>&1 || { status=$?; cat target/ci.log; exit $status; }
+if ! grep -q '^rt: ok' target/ci.log || grep -q '^rt: ok.*, [1-9][0-9]* bad' target/ci.log; then
+    cat target/ci.log
+    echo "test.sh: there is no line 'rt: ok', or it has an edit that is bad"
+    exit 1
+fi
+cat target/ci.log

@@ -5,7 +5,7 @@
 # limit of rates and that are the pads', on the stored list and three that are no fresh ones, and on what a shell
 # can hand it. What comes before the line at which a list leaves demand 2 (request Q-5) is compared with the
 # published build, the rest with the departed one.
-# Needs rustc, and asks 'rt check answer' for the program. With PROGRAM=FILE in the environment that program
+# Needs rustc, and asks rt for the program (tools/proved.sh). With PROGRAM=FILE in the environment that program
 # is compared instead.
 set -eu
 cd "$(dirname "$0")/.."
@@ -13,8 +13,7 @@ lists=${1:-3000}
 seed=${2:-1}
 program=${PROGRAM:-}
 if [ -z "$program" ]; then
-    rt check answer
-    program=$PWD/target/bin/answer
+    program=$(tools/proved.sh answer)
 fi
 answer=$PWD/$(oracle/build.sh answer)
 unlimited=$PWD/$(oracle/build.sh unlimited)

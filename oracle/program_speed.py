@@ -8,7 +8,7 @@ Prints the best time of RUNS (default 15) of each and its ratio to the oracle's,
 packets, and of the stream changing, whose every answer changes. FILE is another program to time beside the two, an
 earlier build for instance; one that reads narrow lines alone, or no kind 8, is not timed on the others. Exits with 1
 where the program answers otherwise than the oracle, FILE does on narrow lines by bytes, or the program is the slower
-one on a realistic list of any width and profile. Needs rustc, and asks 'rt check answer' for the program.
+one on a realistic list of any width and profile. Needs rustc, and asks rt for the program (tools/proved.sh).
 """
 
 import subprocess
@@ -89,7 +89,7 @@ def main():
     if words in (["--help"], ["-h"]):
         print(__doc__)
         return 0
-    programs = {"program": ROOT / "target/bin/answer", "oracle": None}
+    programs = {"program": ROOT / "crates/answer/out/answer", "oracle": None}
     if words[:1] == ["--beside"] and len(words) > 1:
         programs["beside"] = Path(words[1]).resolve()
         words = words[2:]
@@ -101,7 +101,7 @@ def main():
         sys.exit("RUNS and LINES are 1 or more")
     if "beside" in programs and not programs["beside"].is_file():
         sys.exit(f"there is no file {programs['beside']}")
-    subprocess.run(["rt", "check", "answer"], cwd=ROOT, check=True, stdout=subprocess.DEVNULL)
+    subprocess.run(["tools/proved.sh", "answer"], cwd=ROOT, check=True, stdout=subprocess.DEVNULL)
     programs["oracle"] = built("answer")
     ratios = {stream: measure(stream, programs, runs, lines) for stream in (*REALISTIC, "changing")}
     return 1 if any(ratios[stream]["program"] > 1 for stream in REALISTIC) else 0

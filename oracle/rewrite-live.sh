@@ -2,7 +2,7 @@
 # Usage: oracle/rewrite-live.sh [LISTS [SEED]]
 # Compares the program that writes a list anew with the oracle: on fresh lists of every kind, damaged ones
 # among them, on 10^6 lines of both widths, and on what a shell can hand it; then the line writer on 10^6
-# random calls. Needs rustc, and asks 'rt check rewrite' and 'rt check replay_lines' for the programs. With
+# random calls. Needs rustc, and asks rt for the programs (tools/proved.sh). With
 # PROGRAM=FILE or PROGRAM2=FILE in the environment that program is compared instead of the first or the
 # second.
 set -eu
@@ -11,13 +11,11 @@ lists=${1:-3000}
 seed=${2:-1}
 program=${PROGRAM:-}
 if [ -z "$program" ]; then
-    rt check rewrite
-    program=$PWD/target/bin/rewrite
+    program=$(tools/proved.sh rewrite)
 fi
 replay=${PROGRAM2:-}
 if [ -z "$replay" ]; then
-    rt check replay_lines
-    replay=$PWD/target/bin/replay_lines
+    replay=$(tools/proved.sh replay_lines)
 fi
 rewrite=$(oracle/build.sh rewrite)
 write_calls=$(oracle/build.sh write_calls)

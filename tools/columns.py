@@ -6,7 +6,7 @@ Usage: tools/columns.py [COUNT [SEED]]
 
 Writes COUNT numbers (default 1,000,000, at least 1), at random and at the edges, in columns of 0 to 24 places with
 the program replay_columns, and compares each with what Python writes; exits with 1 at the first that differs. Asks
-'rt check replay_columns' for the program, or takes PROGRAM=FILE from the environment. With --stored it writes into
+rt for the program (tools/proved.sh), or takes PROGRAM=FILE from the environment. With --stored it writes into
 DIRECTORY what the gate hands to that program, stdin, and what it has to write, stdout: each edge in each width.
 """
 
@@ -70,12 +70,12 @@ def proved():
     """The program's path, after rt has proved and built it."""
     print("columns: asking rt for the program, some minutes where it has to be proved", file=sys.stderr)
     try:
-        done = subprocess.run(["rt", "check", "replay_columns"], cwd=ROOT, capture_output=True, text=True)
+        done = subprocess.run(["tools/proved.sh", "replay_columns"], cwd=ROOT, capture_output=True, text=True)
     except FileNotFoundError:
         sys.exit("columns: the Rattle kit is needed, and its command rt is not on the PATH")
     if done.returncode != 0:
         sys.exit(f"columns: replay_columns is not proved on this checkout:\n{done.stdout[-600:]}{done.stderr[-600:]}")
-    return ROOT / "target/bin/replay_columns"
+    return done.stdout.strip()
 
 
 def written_by(program, pairs):
