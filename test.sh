@@ -36,12 +36,12 @@ if command -v rustc >/dev/null 2>&1; then
 else
     echo "no rustc: the oracle is skipped"
 fi
+# rt ci passes where an edit is bad, that is where it cannot be applied or read; here that fails.
 mkdir -p target
-# rt passes an edit that it cannot apply or read; here it fails.
-rt ci >target/ci.log 2>&1 || { status=$?; cat target/ci.log; exit $status; }
-if ! grep -q '^rt: ok' target/ci.log || grep -q '^rt: ok.*, [1-9][0-9]* bad' target/ci.log; then
-    cat target/ci.log
-    echo "test.sh: there is no line 'rt: ok', or it has an edit that is bad"
+{ rt ci 2>&1 && echo 0 >target/ci.status || echo $? >target/ci.status; } | tee target/ci.log
+status=$(cat target/ci.status)
+if [ "$status" = 0 ] && { ! grep -q '^rt: ok' target/ci.log || grep -q '^rt: ok.*, [1-9][0-9]* bad' target/ci.log; }; then
+    echo "test.sh: no line 'rt: ok', or one with bad edits: 0 passed, 1 failed"
     exit 1
 fi
-cat target/ci.log
+exit "$status"
