@@ -82,6 +82,7 @@ pub fn is_digit(byte: u8) -> bool
 
 // The number in a column's digits. Wrong without digits, with a zero before others, with a byte that
 // is no digit, and above 2^64 - 1.
+#[tactic(auto, using(crate::proofs::Reading::no_digits, crate::proofs::Reading::leading_zero, crate::proofs::Reading::too_many, crate::proofs::Reading::no_digit, crate::proofs::Reading::digit_bounds, crate::proofs::Reading::one_digit, crate::proofs::Reading::no_leading_zero))]
 pub fn read_number(digits: &[u8]) -> Number
     ensures { result ≡ digits_of digits.now }
 {
@@ -194,6 +195,7 @@ fn a_with_flag(a: u64, b: u64, c: u64) -> bool
 }
 
 // Whether the table of kinds allows the fields.
+#[tactic(auto, using(crate::proofs::Table::rule_12, crate::proofs::Table::rule_34, crate::proofs::Table::rule_rest), unfolding(crate::specs::Line::in_table))]
 fn in_table(kind: u64, a: u64, b: u64, c: u64) -> bool
     ensures { result ≡ in_table kind a b c }
 {
@@ -286,6 +288,7 @@ fn report(a: u64) -> Line
     Line::Taken(Call::Report(a))
 }
 
+#[tactic(auto, unfolding(crate::specs::Line::start_of, crate::specs::Line::by_flag))]
 fn start(b: u64) -> Line
     ensures { result ≡ start_of b }
 {
@@ -297,6 +300,7 @@ fn start(b: u64) -> Line
 }
 
 // The call of fields that the table allows.
+#[tactic(auto, using(crate::proofs::Table::call_rest), unfolding(crate::specs::Line::call_of))]
 fn call_of(kind: u64, a: u64, b: u64, c: u64) -> Line
     ensures { result ≡ call_of kind a b c }
 {

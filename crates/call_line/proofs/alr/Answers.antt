@@ -1,5 +1,4 @@
 -- `alr` meets its contract. Assumes nothing.
-use borrow.Author.Rules.{rules}
 use borrow.Author.Tests.{eq-eqb, ne_eqb}
 use Rattle.call_line.specs.Line.{by_flag, alr_of}
 use Rattle.call_line.proofs.alr.Goals as goal

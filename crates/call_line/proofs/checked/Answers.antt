@@ -1,8 +1,6 @@
 -- `checked` meets its contract. Assumes nothing.
 use mathlib.Core.Path.{◌≡◌, sym, ◌∙◌}
 use mathlib.Core.Bool.{true, false}
-use borrow.Author.Rules.{rules}
-use borrow.Author.Tests.{not-true, not-false}
 use Rattle.call_line.specs.Line.{in_table, checked}
 use Rattle.call_line.proofs.checked.Goals as goal
 

@@ -1,13 +1,9 @@
 -- `digits` meets its contract: the digits from a power on, what is left below it, and that the table holds the powers. Assumes nothing.
 use Prim.Native.Nat.{◌-◌, ◌/◌, ◌%◌, ◌^◌, ◌≤◌}
-use mathlib.Core.Path.{◌≡◌, refl, sym}
-use native.Mathlib.Nat.{mod-eq_of_lt}
-use native.Mathlib.Omega.{arith}
-use borrow.Author.Rules.{rules}
-use lib.ListN.{length, drop, length-set}
+use mathlib.Core.Path.{◌≡◌}
+use lib.ListN.{length, drop}
 use Rattle.logarithm.proofs.Table.{values}
 use Rattle.call_line.specs.Digits.{last_digits}
-use Rattle.call_line.proofs.Writing.{power_at, power_pos, parted, one_digit_more, all_digits}
 use Rattle.call_line.proofs.digits.Given as goal
 
 abbrev pub invariant-loop-k : goal.invariant-loop-k

@@ -1,5 +1,4 @@
 -- `packet` meets its contract. Assumes nothing.
-use borrow.Author.Rules.{rules}
 use borrow.Author.Tests.{le-leb, lt-leb}
 use Rattle.packets.specs.Summary.{packet_refusal}
 use Rattle.call_line.specs.Line.{unless_refused, packet_of}

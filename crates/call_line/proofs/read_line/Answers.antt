@@ -1,6 +1,5 @@
 -- `read_line` meets its contract. Assumes nothing.
 use mathlib.Core.Path.{sym, ap, ◌∙◌}
-use borrow.Author.Rules.{rules}
 use Rattle.call_line.specs.Line.{checked, line_of}
 use Rattle.call_line.proofs.read_line.Goals as goal
 

@@ -1,5 +1,4 @@
 -- `report` meets its contract. Assumes nothing.
-use borrow.Author.Rules.{rules}
 use borrow.Author.Tests.{eq-eqb, ne_eqb}
 use Rattle.call_line.specs.Line.{report_of}
 use Rattle.call_line.proofs.report.Goals as goal

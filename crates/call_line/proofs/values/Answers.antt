@@ -1,6 +1,5 @@
 -- `values` meets its contract: call by call. Assumes nothing.
 use mathlib.Core.Path.{sym, ap}
-use borrow.Author.Rules.{rules}
 use Rattle.call_line.specs.Line.{values_of}
 use Rattle.call_line.proofs.values.Goals as goal
 

@@ -1,19 +1,15 @@
 -- `write_digit` meets its contract: spaces up to the last place. Assumes nothing.
-use Prim.Native.Nat.{◌-◌, ◌≤◌}
-use mathlib.Core.Path.{◌≡◌, refl, sym}
+use Prim.Native.Nat.{◌-◌}
+use mathlib.Core.Path.{◌≡◌, sym}
 use native.Mathlib.Omega.{arith}
-use borrow.Author.Rules.{rules}
 use lib.ListN.{length, length-set}
-use Rattle.call_line.proofs.Writing.{Written, below_power, none_written, space_placed, all_written, last_written}
+use Rattle.call_line.proofs.Writing.{below_power, none_written, space_placed, all_written, last_written}
 use Rattle.call_line.proofs.write_digit.Goals as goal
 
 pub returns-then-out-eq0 : goal.returns-then-out-eq0
 returns-then-out-eq0 c =
     let a = c.args in
     all_written a.out.now a.n 0 (sym c.if-out-eq0.true) (none_written a.out.now a.n)
-
-pub loop-i-init : goal.loop-i-init
-loop-i-init c = (search rules, refl, none_written c.args.out.now c.args.n)
 
 pub loop-i-preserved : goal.loop-i-preserved
 loop-i-preserved c =

@@ -1,10 +1,8 @@
 -- `write_digit` meets its contract: spaces up to the last place. Assumes nothing.
 use Prim.Native.Nat.{◌-◌, ◌≤◌}
-use mathlib.Core.Path.{◌≡◌, refl, sym}
-use native.Mathlib.Omega.{arith}
-use borrow.Author.Rules.{rules}
-use lib.ListN.{length, length-set}
-use Rattle.call_line.proofs.Writing.{Written, below_power, none_written, space_placed, all_written, last_written}
+use mathlib.Core.Path.{◌≡◌}
+use lib.ListN.{length}
+use Rattle.call_line.proofs.Writing.{Written}
 use Rattle.call_line.proofs.write_digit.Given as goal
 
 abbrev pub invariant-loop-i : goal.invariant-loop-i

@@ -1,15 +1,6 @@
 -- `write_number` meets its contract: how many digits the number has, the spaces before them, and they. Assumes nothing.
-use Prim.Native.Nat.{ℕ, ◌+◌, ◌-◌, ◌/◌, ◌%◌, ◌^◌, ◌≤◌, ◌<◌}
-use mathlib.Core.Path.{◌≡◌, refl, sym, ap, ◌∙◌}
-use mathlib.Core.List.{List}
-use native.Mathlib.Omega.{arith}
-use borrow.Author.Rules.{rules}
-use lib.ListN.{length, get_or, length-set}
-use Rattle.call_line.proofs.Writing.{below_power, power_within, some_places, digit_of_lem, digit_reaches, zero_below, Written, none_written, space_placed}
-use Rattle.call_line.proofs.Writing.{digit_placed, all_written}
-use Rattle.call_line.proofs.write_number.Lts as lts
-use Rattle.call_line.proofs.write_number.Tie as tie
-use Rattle.call_line.proofs.write_number.Reads as reads
+use Rattle.std.proofs.Common.{◌≡◌, ◌+◌, ◌-◌, ◌^◌, ◌≤◌, ◌<◌, length}
+use Rattle.call_line.proofs.Writing.{Written}
 use Rattle.call_line.proofs.write_number.Given as goal
 
 abbrev pub invariant-loop-count : goal.invariant-loop-count
