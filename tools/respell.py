@@ -1,7 +1,7 @@
 #!/usr/bin/env python3
 """Brings this repository's own definitions and lemmas to the spelling of today's Rattle: words in snake case.
 
-usage: tools/respell.py [FOLDER]    rewrites the .antt, .rt and .edit files below FOLDER/crates in place (default: the repository)
+usage: tools/respell.py [FOLDER]    rewrites the .antt and .rt files below FOLDER/crates in place (default: the repository)
        tools/respell.py --text FILE..    the same names in prose and scripts: only names that the table tools/respelled.txt holds
 
 Run once, after the kit's port.py. A name is turned where it is declared in this repository, unless the file imports a name of that
