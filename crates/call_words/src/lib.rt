@@ -159,6 +159,7 @@ fn is_comment(word: &[u8]) -> bool
     word[0] == b'#'
 }
 
+#[tactic(auto, unfolding(crate::specs::Words::names, crate::specs::Words::name_in))]
 fn name_of(word: &[u8]) -> Name
     ensures { result ≡ W.name_of word.now }
 {

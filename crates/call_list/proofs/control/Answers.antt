@@ -1,4 +1,3 @@
-use borrow.Author.Rules.{rules}
 use Rattle.call_list.specs.Split.{line_controlled}
 use Rattle.call_list.proofs.control.Goals as goal
 

@@ -1,4 +1,3 @@
-use borrow.Author.Rules.{rules}
 use Rattle.call_list.specs.Split.{call_controlled}
 use Rattle.call_list.proofs.control_call.Goals as goal
 

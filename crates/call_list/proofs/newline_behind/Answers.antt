@@ -1,4 +1,3 @@
-use borrow.Author.Rules.{rules}
 use borrow.Author.Tests.{lt-ltb, le-ltb}
 use lib.Seq.{get_or-drop}
 use lib.ListN.{length, drop, length-drop}

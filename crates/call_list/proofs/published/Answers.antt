@@ -1,4 +1,3 @@
-use borrow.Author.Rules.{rules}
 use Rattle.call_list.specs.Answer.{published}
 use Rattle.call_list.proofs.published.Goals as goal
 

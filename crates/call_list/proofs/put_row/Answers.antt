@@ -3,20 +3,19 @@ use Rattle.call_line.proofs.RoundTrip.{length_column}
 use lib.Seq.{take-suc, take_all, length-take-le}
 use native.Mathlib.Nat.{add-zero}
 use native.Mathlib.Numerals.{add-one}
-use Rattle.call_list.specs.Answer.{text_width}
 use Rattle.buffer.specs.Laid.{laid}
 use Rattle.buffer.proofs.Laying.{byte_laid, laid_twice}
 use Rattle.call_line.specs.Column.{column}
 use lib.ListN.{length, get_or, take, drop, length-set, take-append-drop}
 use mathlib.Core.List.{[], ◌∷◌, ◌++◌}
 use native.Mathlib.Omega.{arith}
-use Prim.Native.Nat.{ℕ, ◌+◌, ◌-◌, ◌≤◌, ◌<◌}
+use Prim.Native.Nat.{ℕ, ◌+◌, ◌-◌, ◌<◌}
 use mathlib.Core.Path.{◌≡◌, refl, sym, ap, ◌∙◌}
 use Rattle.call_list.proofs.put_row.Goals as goal
 
 pub loop-k-init : goal.loop-k-init
 loop-k-init c =
-    let o = c.put_column.new.0 in (
+    let o = c.put_column.new.out in (
       omega arith,
       search rules,
       refl,
@@ -29,7 +28,7 @@ pub loop-k-preserved : goal.loop-k-preserved
 loop-k-preserved c =
     let l = c.loop-k in
     let a = c.args in
-    let o = c.put_column.new.0 in
+    let o = c.put_column.new.out in
     let t : length (take l.k a.text.now) ≡ l.k = length-take-le l.k a.text.now (omega arith) in
     let n : a.w + 2 + l.k ≡ a.w + 2 + length (take l.k a.text.now) = rw t in
     let r : a.w + 2 + l.k < length o =
@@ -50,7 +49,7 @@ pub returns : goal.returns
 returns c =
     let l = c.loop-k in
     let a = c.args in
-    let o = c.put_column.new.0 in
+    let o = c.put_column.new.out in
     let t : take l.k a.text.now ≡ a.text.now = take_all l.k a.text.now (omega arith) in
     let k : a.w + 2 - a.w ≡ 2 = omega arith in
     let e : o ≡ laid a.w (column 2 a.refusal) a.out.now =

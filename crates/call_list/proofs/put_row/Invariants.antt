@@ -1,17 +1,8 @@
-use borrow.Author.Rules.{rules}
-use Rattle.call_line.proofs.RoundTrip.{length_column}
-use lib.Seq.{take-suc, take_all, length-take-le}
-use native.Mathlib.Nat.{add-zero}
-use native.Mathlib.Numerals.{add-one}
 use Rattle.call_list.specs.Answer.{text_width}
 use Rattle.buffer.specs.Laid.{laid}
-use Rattle.buffer.proofs.Laying.{byte_laid, laid_twice}
-use Rattle.call_line.specs.Column.{column}
-use lib.ListN.{length, get_or, take, drop, length-set, take-append-drop}
-use mathlib.Core.List.{[], ◌∷◌, ◌++◌}
-use native.Mathlib.Omega.{arith}
-use Prim.Native.Nat.{ℕ, ◌+◌, ◌-◌, ◌≤◌, ◌<◌}
-use mathlib.Core.Path.{◌≡◌, refl, sym, ap, ◌∙◌}
+use lib.ListN.{length, take}
+use Prim.Native.Nat.{◌+◌, ◌-◌, ◌≤◌}
+use mathlib.Core.Path.{◌≡◌}
 use Rattle.call_list.proofs.put_row.Given as goal
 
 abbrev pub invariant-loop-k : goal.invariant-loop-k

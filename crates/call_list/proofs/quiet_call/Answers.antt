@@ -1,4 +1,3 @@
-use borrow.Author.Rules.{rules}
 use Rattle.call_list.specs.Split.{call_calls, call_queued}
 use mathlib.Core.Path.{refl}
 use Rattle.call_list.proofs.quiet_call.Goals as goal

@@ -1,4 +1,3 @@
-use borrow.Author.Rules.{rules}
 use Rattle.call_list.specs.Answer.{rate_bits}
 use Rattle.call_list.proofs.rate_bits.Goals as goal
 

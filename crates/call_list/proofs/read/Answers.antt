@@ -1,4 +1,3 @@
-use borrow.Author.Rules.{rules}
 use Rattle.call_list.specs.Answer.{reading_of}
 use Rattle.call_list.proofs.read.Goals as goal
 

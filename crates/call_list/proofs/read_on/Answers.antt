@@ -1,10 +1,6 @@
-use borrow.Author.Rules.{rules}
 use Rattle.call_list.proofs.Lines.{at_newline, at_byte, at_full, at_end}
-use Rattle.call_list.specs.Pieces.{next_of}
-use Rattle.call_list.specs.Feed.{kept}
-use lib.ListN.{length, drop, length-set}
-use Prim.Native.Nat.{◌-◌}
-use mathlib.Core.Path.{◌≡◌, sym, ◌∙◌}
+use lib.ListN.{length-set}
+use mathlib.Core.Path.{sym, ◌∙◌}
 use Rattle.call_list.proofs.read_on.Goals as goal
 
 pub returns-then-b-eq10 : goal.returns-then-b-eq10

@@ -1,10 +1,8 @@
-use borrow.Author.Rules.{rules}
-use Rattle.call_list.proofs.Lines.{at_newline, at_byte, at_full, at_end}
 use Rattle.call_list.specs.Pieces.{next_of}
 use Rattle.call_list.specs.Feed.{kept}
-use lib.ListN.{length, drop, length-set}
+use lib.ListN.{length, drop}
 use Prim.Native.Nat.{◌-◌}
-use mathlib.Core.Path.{◌≡◌, sym, ◌∙◌}
+use mathlib.Core.Path.{◌≡◌}
 use Rattle.call_list.proofs.read_on.Given as goal
 
 abbrev pub invariant-loop-i : goal.invariant-loop-i

@@ -1,7 +1,5 @@
 -- `renew` meets its contract: the text is another only where the reading is. Assumes nothing.
 use mathlib.Core.Path.{sym, ap, ◌∙◌}
-use borrow.Author.Rules.{rules}
-use borrow.Author.Tests.{not-false}
 use Rattle.call_list.specs.Answer.{text_of}
 use Rattle.call_list.proofs.Turning.{same_is}
 use Rattle.call_list.proofs.renew.Goals as goal

@@ -1,5 +1,4 @@
 -- `standing` meets its contract. Assumes nothing.
-use borrow.Author.Rules.{rules}
 use Rattle.call_list.specs.Pieces.{standing}
 use Rattle.call_list.proofs.standing.Goals as goal
 

@@ -1,4 +1,3 @@
-use borrow.Author.Rules.{rules}
 use Rattle.call_list.specs.Answer.{text_of}
 use Rattle.call_list.proofs.Laying.{four_laid}
 use mathlib.Core.Path.{refl}

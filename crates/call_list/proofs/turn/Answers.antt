@@ -1,4 +1,3 @@
-use borrow.Author.Rules.{rules}
 use Rattle.call_list.proofs.Turning.{loudly, quietly}
 use Rattle.call_list.proofs.turn.Goals as goal
 

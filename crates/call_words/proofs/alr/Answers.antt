@@ -1,5 +1,4 @@
 -- `alr` meets its contract. Assumes nothing.
-use Rattle.std.proofs.Common.{rules}
 use Rattle.call_words.specs.Words.{alr_of, given}
 use Rattle.call_words.proofs.alr.Goals as goal
 

@@ -1,5 +1,5 @@
 -- `at_most` meets its contract. Assumes nothing.
-use Rattle.std.proofs.Common.{rules, le-leb}
+use Rattle.std.proofs.Common.{le-leb}
 use borrow.Author.Tests.{lt-leb}
 use Rattle.call_words.specs.Words.{at_most}
 use Rattle.call_words.proofs.at_most.Goals as goal

@@ -1,5 +1,4 @@
 -- `capacity` meets its contract. Assumes nothing.
-use Rattle.std.proofs.Common.{rules}
 use Rattle.call_words.specs.Words.{capacity_of, given}
 use Rattle.call_words.proofs.capacity.Goals as goal
 

@@ -1,14 +1,7 @@
 -- `count_words` meets its contract: the words so far, and those ahead, are all. Assumes nothing.
-use Rattle.std.proofs.Common.{◌≡◌, ◌+◌, ◌-◌, ◌≤◌, length, drop, ap, arith, rules}
-use Rattle.call_words.specs.Words.{words_in}
-use Rattle.call_words.proofs.Splitting.{AtWord, start_at_word, start_words, end_within, next_at_word, next_words, next_further, no_word_left}
-use Rattle.call_words.proofs.count_words.Lts as lts
-use Rattle.call_words.proofs.count_words.Tie as tie
-use Rattle.call_words.proofs.count_words.Reads as reads
+use Rattle.std.proofs.Common.{length, ap, arith}
+use Rattle.call_words.proofs.Splitting.{start_at_word, start_words, end_within, next_at_word, next_words, next_further, no_word_left}
 use Rattle.call_words.proofs.count_words.Goals as goal
-
-abbrev After-word_start-from-in-loop-from : Type 0
-After-word_start-from-in-loop-from = lts.After-word_start2 tie.the-claims reads.Pre reads.Post goal.the-invariant-loop-from goal.the-decreases-loop-from
 
 pub loop-from-init : goal.loop-from-init
 loop-from-init c =
@@ -18,21 +11,22 @@ loop-from-init c =
 pub word_start-from-requires-in-loop-from : goal.word_start-from-requires-in-loop-from
 word_start-from-requires-in-loop-from c = (end_within _ _ _ c.loop-from.invariant.0 c.word_end-end.ensures).1
 
-further : (c : After-word_start-from-in-loop-from) → c.loop-from.from + 1 ≤ c.word_start-from-in-loop-from.result
-further c =
-    let t = c.loop-from-test.true in
-    omega
-    (arith, next_further _ c.loop-from.from _ _ c.loop-from.invariant.0 c.word_end-end.ensures c.word_start-from-in-loop-from.ensures t)
-
 pub loop-from-smaller : goal.loop-from-smaller
-loop-from-smaller c = omega (arith, further c.before)
+loop-from-smaller c =
+    omega (
+      arith,
+      next_further _ c.loop-from.from _ _ c.loop-from.invariant.0 c.word_end-end.ensures c.word_start-from-in-loop-from.ensures
+          c.loop-from-test.true,
+    )
 
 pub loop-from-preserved : goal.loop-from-preserved
 loop-from-preserved c =
     let a = c.loop-from.invariant.0 in
     let e = c.word_end-end.ensures in
     let n = c.word_start-from-in-loop-from.ensures in
-    (next_at_word _ _ _ _ a e n, omega (arith, further c.before), omega (arith, ap length (next_words _ _ _ _ a e n c.loop-from-test.true)))
+    let t = c.loop-from-test.true in
+    let f = next_further _ c.loop-from.from _ _ a e n t in
+    (next_at_word _ _ _ _ a e n, omega (arith, f), omega (arith, ap length (next_words _ _ _ _ a e n t)))
 
 pub returns : goal.returns
 returns c =

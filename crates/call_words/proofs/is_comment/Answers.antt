@@ -1,5 +1,5 @@
 -- `is_comment` meets its contract. Assumes nothing.
-use Rattle.std.proofs.Common.{refl, rules}
+use Rattle.std.proofs.Common.{refl}
 use Rattle.call_words.specs.Words.{is_comment}
 use Rattle.call_words.proofs.Saying.{no_bytes}
 use Rattle.call_words.proofs.is_comment.Goals as goal

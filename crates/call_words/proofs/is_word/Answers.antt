@@ -1,14 +1,10 @@
 -- `is_word` meets its contract: what is left of both is compared. Assumes nothing.
-use Rattle.std.proofs.Common.{◌≡◌, ◌-◌, ◌≤◌, length, drop, sym, refl, ◌∙◌, arith, rules}
-use Rattle.call_words.specs.Words.{same}
+use Rattle.std.proofs.Common.{sym, ◌∙◌, arith}
 use Rattle.call_words.proofs.Saying.{other_length, same_end, same_on, same_not}
 use Rattle.call_words.proofs.is_word.Goals as goal
 
 pub returns-then-word-text : goal.returns-then-word-text
 returns-then-word-text c = sym (other_length _ _ c.if-word-text.true)
-
-pub loop-i-init : goal.loop-i-init
-loop-i-init c = (omega arith, refl)
 
 pub returns-then-word-i : goal.returns-then-word-i
 returns-then-word-i c =

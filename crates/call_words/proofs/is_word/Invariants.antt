@@ -1,7 +1,6 @@
 -- `is_word` meets its contract: what is left of both is compared. Assumes nothing.
-use Rattle.std.proofs.Common.{◌≡◌, ◌-◌, ◌≤◌, length, drop, sym, refl, ◌∙◌, arith, rules}
+use Rattle.std.proofs.Common.{◌≡◌, ◌-◌, ◌≤◌, length, drop}
 use Rattle.call_words.specs.Words.{same}
-use Rattle.call_words.proofs.Saying.{other_length, same_end, same_on, same_not}
 use Rattle.call_words.proofs.is_word.Given as goal
 
 abbrev pub invariant-loop-i : goal.invariant-loop-i

@@ -1,5 +1,5 @@
 -- `packet` meets its contract. Assumes nothing.
-use Rattle.std.proofs.Common.{sym, ◌∙◌, rules}
+use Rattle.std.proofs.Common.{sym, ◌∙◌}
 use Rattle.call_words.specs.Words.{packet_of, packet_by}
 use Rattle.call_words.proofs.Numbers.{size_fits}
 use Rattle.call_words.proofs.packet.Goals as goal

@@ -1,11 +1,8 @@
 -- `point` meets its contract. Assumes nothing.
-use Rattle.std.proofs.Common.{◌≡◌, ◌-◌, ◌≤◌, length, sym, ◌∙◌, zero-add, arith, rules, eq-eqb, ne_eqb}
-use Rattle.call_words.specs.Words.{up_to, is_point}
-use Rattle.call_words.proofs.Scanning.{place, place_here, place_on, place_end}
+use Rattle.std.proofs.Common.{sym, ◌∙◌, arith, eq-eqb, ne_eqb}
+use Rattle.call_words.specs.Words.{is_point}
+use Rattle.call_words.proofs.Scanning.{place_here, place_on, place_end}
 use Rattle.call_words.proofs.point.Goals as goal
-
-pub loop-i-init : goal.loop-i-init
-loop-i-init c = (omega arith, simp zero-add)
 
 pub returns-then-word-i-eq46 : goal.returns-then-word-i-eq46
 unfolding is_point

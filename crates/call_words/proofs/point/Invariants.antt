@@ -1,7 +1,7 @@
 -- `point` meets its contract. Assumes nothing.
-use Rattle.std.proofs.Common.{◌≡◌, ◌-◌, ◌≤◌, length, sym, ◌∙◌, zero-add, arith, rules, eq-eqb, ne_eqb}
+use Rattle.std.proofs.Common.{◌≡◌, ◌-◌, ◌≤◌, length}
 use Rattle.call_words.specs.Words.{up_to, is_point}
-use Rattle.call_words.proofs.Scanning.{place, place_here, place_on, place_end}
+use Rattle.call_words.proofs.Scanning.{place}
 use Rattle.call_words.proofs.point.Given as goal
 
 abbrev pub invariant-loop-i : goal.invariant-loop-i

@@ -1,12 +1,6 @@
 -- `read_digits` meets its contract: the number so far, and the digits ahead, are all. Assumes nothing.
-use Rattle.std.proofs.Common.{◌≡◌, ℕ, ◌+◌, ◌-◌, ◌*◌, ◌^◌, ◌<◌, ◌≤◌, true, List, length, get_or, drop, sym, refl, ◌∙◌, arith, rules}
-use borrow.Author.Tests.{not-true, not-false}
-use Rattle.call_line.specs.Column.{ascii_zero, is_digit, more}
-use Rattle.call_line.proofs.Reading.{digit_bounds, digits_fit, more_end, more_on}
-use Rattle.call_words.proofs.Numbers.{more_stop}
-use Rattle.call_words.proofs.read_digits.Lts as lts
-use Rattle.call_words.proofs.read_digits.Tie as tie
-use Rattle.call_words.proofs.read_digits.Reads as reads
+use Rattle.std.proofs.Common.{◌≡◌, ◌-◌, ◌^◌, ◌<◌, ◌≤◌, length, drop}
+use Rattle.call_line.specs.Column.{more}
 use Rattle.call_words.proofs.read_digits.Given as goal
 
 abbrev pub invariant-loop-i : goal.invariant-loop-i

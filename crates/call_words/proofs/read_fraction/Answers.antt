@@ -1,5 +1,5 @@
 -- `read_fraction` meets its contract. Assumes nothing.
-use Rattle.std.proofs.Common.{ℕ, ◌*◌, sym, ap, ◌∙◌, arith, rules}
+use Rattle.std.proofs.Common.{ℕ, ◌*◌, sym, ap, ◌∙◌, arith}
 use Rattle.call_words.specs.Words.{times}
 use Rattle.call_words.proofs.Numbers.{places_none, places_many, places_some, places_fit}
 use Rattle.call_words.proofs.read_fraction.Goals as goal
@@ -12,11 +12,10 @@ returns-then-digits-gt-MOST_PLACES c = sym (places_many _ c.if-digits-gt-MOST_PL
 
 pub overflow_mul-result : goal.overflow_mul-result
 overflow_mul-result c =
-    let v = c.value-1.given in
     omega (
       arith,
-      ap (λ (u : ℕ). v.0.0 * u) c.unit-nanos.ensures,
-      places_fit _ c.if-digits-eq0.false c.if-digits-gt-MOST_PLACES.false _ (sym c.read_digits.ensures ∙ v.1),
+      ap (λ (u : ℕ). c.in-Value.value * u) c.unit-nanos.ensures,
+      places_fit _ c.if-digits-eq0.false c.if-digits-gt-MOST_PLACES.false _ (sym c.read_digits.ensures ∙ c.in-Value.is),
     )
 
 pub returns-in-Value : goal.returns-in-Value

@@ -1,5 +1,5 @@
 -- `read_rate` meets its contract. Assumes nothing.
-use Rattle.std.proofs.Common.{rules, le-leb}
+use Rattle.std.proofs.Common.{le-leb}
 use borrow.Author.Tests.{lt-leb}
 use Rattle.call_words.specs.Words.{rate_of, bits_of, at_most}
 use Rattle.call_words.proofs.read_rate.Goals as goal

@@ -1,5 +1,5 @@
 -- `read_size` meets its contract. Assumes nothing.
-use Rattle.std.proofs.Common.{ap, ◌∙◌, rules}
+use Rattle.std.proofs.Common.{ap, ◌∙◌}
 use Rattle.call_words.specs.Words.{at_most, size_of}
 use Rattle.call_words.proofs.read_size.Goals as goal
 

@@ -1,5 +1,4 @@
 -- `start` meets its contract. Assumes nothing.
-use Rattle.std.proofs.Common.{rules}
 use Rattle.call_words.specs.Words.{start_of}
 use Rattle.call_words.proofs.start.Goals as goal
 

@@ -1,6 +1,5 @@
 -- `unit` meets its contract. Assumes nothing.
-use Rattle.std.proofs.Common.{◌≡◌, ℕ, ◌-◌, ◌^◌, ◌≤◌, ap, ◌∙◌, arith, rules}
-use Rattle.call_words.proofs.Numbers.{power_next, power_fits}
+use Rattle.std.proofs.Common.{◌≡◌, ◌-◌, ◌^◌, ◌≤◌}
 use Rattle.call_words.proofs.unit.Given as goal
 
 abbrev pub invariant-loop-i : goal.invariant-loop-i

@@ -1,5 +1,4 @@
 -- `with_outcome` meets its contract. Assumes nothing.
-use Rattle.std.proofs.Common.{rules}
 use Rattle.call_words.specs.Words.{with_outcome}
 use Rattle.call_words.proofs.with_outcome.Goals as goal
 

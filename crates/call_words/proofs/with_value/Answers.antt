@@ -1,5 +1,4 @@
 -- `with_value` meets its contract. Assumes nothing.
-use Rattle.std.proofs.Common.{rules}
 use Rattle.call_words.specs.Words.{with_value, given}
 use Rattle.call_words.proofs.with_value.Goals as goal
 

@@ -1,18 +1,8 @@
 -- `word` meets its contract: the word is the one that is as many words ahead as are not passed yet. Assumes nothing.
-use Rattle.std.proofs.Common.{◌≡◌, ℕ, suc, ◌+◌, ◌-◌, ◌≤◌, List, get_or, drop, sym, ap, ◌∙◌, arith, rules}
+use Rattle.std.proofs.Common.{◌≡◌, ℕ, suc, ◌+◌, ◌-◌, List, get_or, drop, sym, ap, ◌∙◌, arith}
 use Rattle.call_words.specs.Words.{words_in, no_word}
-use Rattle.call_words.proofs.Splitting.{AtWord, start_at_word, start_words, end_within, next_at_word, next_word, word_at}
-use Rattle.call_words.proofs.word.Lts as lts
-use Rattle.call_words.proofs.word.Tie as tie
-use Rattle.call_words.proofs.word.Reads as reads
+use Rattle.call_words.proofs.Splitting.{start_at_word, start_words, end_within, next_at_word, next_word, word_at}
 use Rattle.call_words.proofs.word.Goals as goal
-
-abbrev At-loop-i : Type 0
-At-loop-i = lts.At-loop tie.the-claims reads.Pre reads.Post goal.the-invariant-loop-i goal.the-decreases-loop-i
-
--- the words from the place on
-abbrev ahead : At-loop-i invariant_loop decreases_loop → List (List ℕ)
-ahead l = words_in (drop l.loop-i.from l.args.line.now)
 
 pub loop-i-init : goal.loop-i-init
 loop-i-init c =
@@ -37,14 +27,10 @@ loop-i-preserved c =
     let j : k - c.loop-i.i ≡ suc (k - (c.loop-i.i + 1)) = omega arith in (
       next_at_word _ _ _ _ a e n,
       omega arith,
-      c.loop-i.invariant.2 ∙ ap (λ (m : ℕ). get_or (ahead c.before.before.before.before) m no_word) j ∙ next_word _ _ _ _ a e n (k - (c.loop-i.i + 1)),
+      c.loop-i.invariant.2
+          ∙ ap (λ (m : ℕ). get_or (words_in (drop c.loop-i.from c.args.line.now)) m no_word) j
+          ∙ next_word _ _ _ _ a e n (k - (c.loop-i.i + 1)),
     )
-
-pub slice_bounds-result-count : goal.slice_bounds-result-count
-slice_bounds-result-count c = (end_within _ _ _ c.loop-i.invariant.0 c.word_end-end-2.ensures).0
-
-pub slice_bounds-result-start : goal.slice_bounds-result-start
-slice_bounds-result-start c = (end_within _ _ _ c.loop-i.invariant.0 c.word_end-end-2.ensures).0
 
 pub slice_bounds-result-end : goal.slice_bounds-result-end
 slice_bounds-result-end c = (end_within _ _ _ c.loop-i.invariant.0 c.word_end-end-2.ensures).1
@@ -52,4 +38,7 @@ slice_bounds-result-end c = (end_within _ _ _ c.loop-i.invariant.0 c.word_end-en
 pub returns : goal.returns
 returns c =
     let z : c.args.k - c.loop-i.i ≡ 0 = omega arith in
-    sym (c.loop-i.invariant.2 ∙ ap (λ (m : ℕ). get_or (ahead c.before.before.before.before) m no_word) z ∙ word_at _ _ _ c.word_end-end-2.ensures c.loop-i.invariant.0)
+    sym
+    (c.loop-i.invariant.2
+    ∙ ap (λ (m : ℕ). get_or (words_in (drop c.loop-i.from c.args.line.now)) m no_word) z
+    ∙ word_at _ _ _ c.word_end-end-2.ensures c.loop-i.invariant.0)

@@ -1,10 +1,7 @@
 -- `word` meets its contract: the word is the one that is as many words ahead as are not passed yet. Assumes nothing.
-use Rattle.std.proofs.Common.{◌≡◌, ℕ, suc, ◌+◌, ◌-◌, ◌≤◌, List, get_or, drop, sym, ap, ◌∙◌, arith, rules}
+use Rattle.std.proofs.Common.{◌≡◌, ◌-◌, ◌≤◌, get_or, drop}
 use Rattle.call_words.specs.Words.{words_in, no_word}
-use Rattle.call_words.proofs.Splitting.{AtWord, start_at_word, start_words, end_within, next_at_word, next_word, word_at}
-use Rattle.call_words.proofs.word.Lts as lts
-use Rattle.call_words.proofs.word.Tie as tie
-use Rattle.call_words.proofs.word.Reads as reads
+use Rattle.call_words.proofs.Splitting.{AtWord}
 use Rattle.call_words.proofs.word.Given as goal
 
 abbrev pub invariant-loop-i : goal.invariant-loop-i

@@ -1,7 +1,7 @@
 -- `word_start` meets its contract. Assumes nothing.
-use Rattle.std.proofs.Common.{◌≡◌, ◌-◌, ◌≤◌, not, length, sym, refl, ap, ◌∙◌, arith, rules}
+use Rattle.std.proofs.Common.{◌≡◌, ◌-◌, ◌≤◌, length}
 use Rattle.call_words.specs.Words.{is_other}
-use Rattle.call_words.proofs.Scanning.{place, place_here, place_on, place_end}
+use Rattle.call_words.proofs.Scanning.{place}
 use Rattle.call_words.proofs.word_start.Given as goal
 
 abbrev pub invariant-loop-i : goal.invariant-loop-i
