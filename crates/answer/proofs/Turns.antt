@@ -6,9 +6,9 @@ use mathlib.Core.List.{List, [], ◌∷◌, ◌++◌}
 use native.Mathlib.Decide.{dec_le}
 use native.Mathlib.Omega.{arith}
 use borrow.Author.Tests.{ltb-true, leb-true, leb-false}
-use lib.Dec.{ltb, leb-zero}
+use lib.Dec.{ltb}
 use lib.IntN.{ℤ, pos, negsuc}
-use lib.ListN.{length, take, drop, length-append, length-drop, length-take}
+use lib.ListN.{length, take, drop, length-append, length-take}
 use lib.Seq.{take_all}
 use lib.Signed.{lt_z, le_z}
 use Rattle.float.proofs.Both.{both}
@@ -19,7 +19,6 @@ use Rattle.call_list.specs.Feed.{Run, row_width, FedBy, roomy, Feeds, Finishes}
 use Rattle.call_list.specs.Whole.{answers, joined, Reached, fed, ended}
 use Rattle.call_list.proofs.Feeding.{room_yes}
 use Rattle.call_list.proofs.Streaming.{in_chunks, so_far, reached_short}
-use Rattle.answer.specs.declared.Stop.{Stop}
 use Rattle.answer.specs.Turn.{Idles, Turned, some_read, goes_on, Stops}
 
 -- ---- what a read answered

@@ -1,5 +1,5 @@
 // Answers a call list: standard input to standard output, chunk by chunk. What is answered is
-// `call_list`'s; here are the buffers and the calls of C.
+// `call_list`'s; here are the buffers, the reads and the writes.
 #![tactic(auto)]
 
 ghost use Rattle.std.specs.Prelude.{◌≤◌, ◌/◌, ◌≡◌, length};
@@ -8,7 +8,6 @@ ghost use Rattle.call_list.specs.Whole.{none};
 ghost use Rattle.answer.specs.Turn.{Turned, goes_on, Stops};
 
 use call_list::{Fed, PLACES, ROW, State};
-use libc::{STDERR_FILENO, STDIN_FILENO, STDOUT_FILENO};
 use packets::PacketSize;
 
 // The bytes of a read, and room for the answers to as many lines
@@ -24,14 +23,28 @@ struct Stop {
     fed: Fed,
 }
 
-fn main() {
+fn main(rt: HostRuntime) -> std::io::Result<()> {
     let mut times = [0u64; PLACES];
     let mut sizes: [PacketSize; PLACES] = [0; PLACES];
     let mut flags = [0u8; PLACES];
-    let mut chunk = [0u8; CHUNK];
-    let mut out = [0u8; ROOM];
-    let stop = answer_all(&mut times, &mut sizes, &mut flags, &mut chunk, &mut out);
-    complain(stop.got, stop.wrote);
+    let mut chunk = empty_chunk();
+    let mut out = empty_room();
+    let stop = answer_all(rt, &mut times, &mut sizes, &mut flags, &mut chunk, &mut out);
+    complain(&rt, stop.got, stop.wrote)
+}
+
+// The buffers are zeros. What these two promise is their lengths alone, so that no proof computes with
+// so many bytes.
+fn empty_chunk() -> [u8; CHUNK]
+    ensures { length result ≡ 16384 }
+{
+    [0; CHUNK]
+}
+
+fn empty_room() -> [u8; ROOM]
+    ensures { length result ≡ 770048 }
+{
+    [0; ROOM]
 }
 
 // The queue's columns start as zeros, as `call_list`'s theorem over a whole input has them.
@@ -39,6 +52,7 @@ fn main() {
 // A proved loop has to end, and nothing says that the input does: the turns are counted down from a
 // number that no run uses up.
 fn answer_all(
+    rt: HostRuntime,
     times: &mut [u64; PLACES],
     sizes: &mut [PacketSize; PLACES],
     flags: &mut [u8; PLACES],
@@ -51,11 +65,11 @@ fn answer_all(
 {
     let mut state = call_list::start();
     let mut left = u64::MAX;
-    loop {
-        let got = libc::read(STDIN_FILENO, chunk);
+    'turns: loop {
+        let got = streams::read_chunk(&mut rt.stdin(), chunk);
         let fed = take_turn(got, state, times, sizes, flags, chunk, out);
         let written = fed.written;
-        let wrote = io::write_all(STDOUT_FILENO, &out[..written]);
+        let wrote = streams::write_all(&rt, &out[..written]);
         if !goes_on(got, wrote, left) {
             return Stop { got, wrote, fed };
         }
@@ -105,11 +119,12 @@ fn goes_on(got: isize, wrote: bool, left: u64) -> bool
 }
 
 // One line on standard error for a run that could not answer its whole input.
-fn complain(got: isize, wrote: bool) {
+fn complain(rt: &impl Eprint, got: isize, wrote: bool) -> std::io::Result<()> {
     if got < 0 {
-        io::write_all(STDERR_FILENO, b"answer: the input cannot be read\n");
+        eprintln!(rt; "answer: the input cannot be read")?;
     }
     if !wrote {
-        io::write_all(STDERR_FILENO, b"answer: the answers cannot be written\n");
+        eprintln!(rt; "answer: the answers cannot be written")?;
     }
+    Ok(())
 }

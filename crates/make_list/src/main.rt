@@ -1,5 +1,5 @@
 // Makes a call list: lines of words on standard input, call lines on standard output. What words say is
-// `call_words`'s, and the lines are `call_line`'s; here are the buffers, the messages and the calls of C.
+// `call_words`'s, and the lines are `call_line`'s; here are the buffers, the messages, the reads and the writes.
 // A wrong line is told on standard error, with its number, and makes no call line.
 #![tactic(auto)]
 
@@ -8,7 +8,7 @@ ghost use Rattle.call_line.specs.Write.{line_text, line_bytes, write_refusal};
 
 use call_line::{Call, LINE_WIDTH};
 use call_words::{Why, Words};
-use libc::{STDERR_FILENO, STDIN_FILENO, STDOUT_FILENO};
+use std::io::Read;
 
 // The bytes of a read
 const CHUNK: usize = 16_384;
@@ -25,44 +25,40 @@ struct Place {
     wrote: bool,
 }
 
-fn main() {
+fn main(rt: HostRuntime) {
     let mut chunk = [0u8; CHUNK];
     // One byte more than a line may have, so that a longer one is told.
     let mut line = [0u8; LONGEST + 1];
-    make_all(&mut chunk, &mut line);
+    make_all(rt, &mut chunk, &mut line);
 }
 
-// A proved loop has to end, and nothing says that the input does: the turns are counted down from a
-// number that no run uses up.
-fn make_all(chunk: &mut [u8], line: &mut [u8]) {
+// A proved loop has to end, and nothing says that the input does: the turns are counted, to a number
+// that no run reaches.
+fn make_all(rt: HostRuntime, chunk: &mut [u8], line: &mut [u8]) {
     let mut place = Place {
         kept: 0,
         number: 1,
         wrote: true,
     };
-    let mut left = u64::MAX;
-    while left > 0 {
-        let got = libc::read(STDIN_FILENO, chunk);
-        if got < 0 {
-            io::write_all(STDERR_FILENO, b"make_list: the input cannot be read\n");
+    for _ in 0..u64::MAX {
+        let Ok(n) = rt.stdin().read(chunk) else {
+            complain_of_input(&rt);
             return;
-        }
-        let n = io::count(got, chunk);
+        };
         if n == 0 {
-            end(place, line);
+            end(rt, place, line);
             return;
         }
-        place = take(place, line, &chunk[0..n]);
+        place = take(rt, place, line, &chunk[0..n]);
         if !place.wrote {
-            complain_of_output();
+            complain_of_output(&rt);
             return;
         }
-        left -= 1;
     }
 }
 
 // The bytes of a read: a newline ends the line, any other is kept where it has room.
-fn take(place: Place, line: &mut [u8], chunk: &[u8]) -> Place
+fn take(rt: HostRuntime, place: Place, line: &mut [u8], chunk: &[u8]) -> Place
     requires { place.kept ≤ length line.old }
     ensures { result.kept ≤ length line.old }
 {
@@ -73,7 +69,7 @@ fn take(place: Place, line: &mut [u8], chunk: &[u8]) -> Place
         let byte = chunk[i];
         i += 1;
         if byte == b'\n' {
-            if !make_line(&line[0..kept], number) {
+            if !make_line(rt, &line[0..kept], number) {
                 return Place {
                     kept: 0,
                     number,
@@ -103,87 +99,95 @@ fn next(number: u64) -> u64 {
 }
 
 // A last line may lack its newline.
-fn end(place: Place, line: &[u8])
+fn end(rt: HostRuntime, place: Place, line: &[u8])
     requires { place.kept ≤ length line.now }
 {
     if place.kept == 0 {
         return;
     }
     let kept = place.kept;
-    if !make_line(&line[0..kept], place.number) {
-        complain_of_output();
+    if !make_line(rt, &line[0..kept], place.number) {
+        complain_of_output(&rt);
     }
 }
 
 // One line of words: whether what it makes was written.
-fn make_line(line: &[u8], number: u64) -> bool {
+fn make_line(rt: HostRuntime, line: &[u8], number: u64) -> bool {
     if line.len() > LONGEST {
-        complain(number, b"the line is too long: at most 256 bytes");
+        complain(&rt, number, "the line is too long: at most 256 bytes");
         return true;
     }
     match call_words::read_words(line) {
         Words::Call(call) => {
             let mut text = [0u8; LINE_WIDTH + 1];
-            write_call(call, &mut text)
+            write_call(&rt, call, &mut text)
         }
         Words::Nothing => true,
         Words::Wrong(why) => {
-            complain_of_words(number, why);
+            complain_of_words(&rt, number, why);
             true
         }
     }
 }
 
 // The text has room for the line and no more, and words say no call that is refused.
-fn write_call(call: Call, text: &mut [u8]) -> bool
+fn write_call(rt: &impl Print, call: Call, text: &mut [u8]) -> bool
     requires { (write_refusal call line_bytes ≡ 0) × (length text.old ≡ line_bytes) }
     ensures { text.new ≡ line_text call }
 {
     call_line::write_line(call, text);
-    io::write_all(STDOUT_FILENO, text)
+    rt.write_all(text).is_ok()
 }
 
-fn complain_of_words(number: u64, why: Why) {
+fn complain_of_words(rt: &impl Eprint, number: u64, why: Why) {
     match why {
         Why::UnknownCall => complain(
+            rt,
             number,
-            b"there is no such call: estimate, acknowledged, alr, capacity, packet, report, read or start",
+            "there is no such call: estimate, acknowledged, alr, capacity, packet, report, read or start",
         ),
         Why::WordCount => complain(
+            rt,
             number,
-            b"the wrong number of words: a rate follows, or SECONDS (alr), or SECONDS BYTES lost or arrived (packet), or bytes or packets (start), or nothing (read)",
+            "the wrong number of words: a rate follows, or SECONDS (alr), or SECONDS BYTES lost or arrived (packet), or bytes or packets (start), or nothing (read)",
         ),
         Why::Rate => complain(
+            rt,
             number,
-            b"a wrong rate: whole bit/s, at most 1000000000000000, without leading zeros, or inf; a capacity may be none",
+            "a wrong rate: whole bit/s, at most 1000000000000000, without leading zeros, or inf; a capacity may be none",
         ),
         Why::Time => complain(
+            rt,
             number,
-            b"a wrong time: seconds, at most 4000000000, without leading zeros, whole or with one to nine digits after a point; alr may be off",
+            "a wrong time: seconds, at most 4000000000, without leading zeros, whole or with one to nine digits after a point; alr may be off",
         ),
         Why::Size => complain(
+            rt,
             number,
-            b"a wrong size: whole bytes, at most 9999999, without leading zeros",
+            "a wrong size: whole bytes, at most 9999999, without leading zeros",
         ),
         Why::Outcome => complain(
+            rt,
             number,
-            b"a packet that is neither lost nor arrived: its last word is one of the two",
+            "a packet that is neither lost nor arrived: its last word is one of the two",
         ),
         Why::Measure => complain(
+            rt,
             number,
-            b"a start by neither bytes nor packets: its last word is one of the two",
+            "a start by neither bytes nor packets: its last word is one of the two",
         ),
     }
 }
 
-fn complain(number: u64, message: &[u8]) {
-    io::write_all(STDERR_FILENO, b"make_list: line ");
-    io::print_decimal(STDERR_FILENO, number);
-    io::write_all(STDERR_FILENO, b": ");
-    io::write_all(STDERR_FILENO, message);
-    io::write_all(STDERR_FILENO, b"\n");
+// A run goes on where standard error takes no message.
+fn complain(rt: &impl Eprint, number: u64, message: &str) {
+    let _ = eprintln!(rt; "make_list: line {number}: {message}");
 }
 
-fn complain_of_output() {
-    io::write_all(STDERR_FILENO, b"make_list: the list cannot be written\n");
+fn complain_of_input(rt: &impl Eprint) {
+    let _ = eprintln!(rt; "make_list: the input cannot be read");
+}
+
+fn complain_of_output(rt: &impl Eprint) {
+    let _ = eprintln!(rt; "make_list: the list cannot be written");
 }

@@ -22,45 +22,46 @@ use crate::limits::{
     times_at_full_count,
 };
 use crate::order::{alone, chain, packet_by_packet, pairs};
-use crate::print::text;
 use crate::summaries::{no_report, summaries};
 use crate::verdict::Tally;
+use std::io;
 
-fn main() {
-    text(b"by bytes\n");
+fn main(rt: HostRuntime) -> io::Result<()> {
+    println!(rt; "by bytes")?;
     let mut tally = all_cases(Tally {
+        out: rt.stdout(),
         use_byte_loss_ratio: true,
         cases: 0,
         mismatches: 0,
-    });
-    text(b"by packets\n");
+    })?;
+    println!(rt; "by packets")?;
     tally.use_byte_loss_ratio = false;
-    tally = all_cases(tally);
-    tally.print();
+    tally = all_cases(tally)?;
+    tally.print()
 }
 
-fn all_cases(before: Tally) -> Tally {
+fn all_cases(before: Tally) -> io::Result<Tally> {
     let mut tally = before;
-    tally = alone(tally);
-    tally = pairs(tally);
-    tally = chain(tally);
-    tally = packet_by_packet(tally);
-    tally = columns(tally);
-    tally = longest_reports(tally);
-    tally = odd_packets(tally);
-    tally = bytes_limit(tally);
-    tally = packets_limit(tally);
-    tally = count_limit(tally);
-    tally = times_at_full_count(tally);
-    tally = empty_reports(tally);
-    tally = rates(tally, Call::Estimate);
-    tally = rates(tally, Call::Acknowledged);
-    tally = rates(tally, Call::LinkCapacity);
-    tally = rates(tally, Call::Report);
-    tally = rates(tally, Call::EmptyReport);
-    tally = rates(tally, Call::Summary);
-    tally = options(tally);
-    tally = summaries(tally);
-    tally = no_report(tally);
-    tally
+    tally = alone(tally)?;
+    tally = pairs(tally)?;
+    tally = chain(tally)?;
+    tally = packet_by_packet(tally)?;
+    tally = columns(tally)?;
+    tally = longest_reports(tally)?;
+    tally = odd_packets(tally)?;
+    tally = bytes_limit(tally)?;
+    tally = packets_limit(tally)?;
+    tally = count_limit(tally)?;
+    tally = times_at_full_count(tally)?;
+    tally = empty_reports(tally)?;
+    tally = rates(tally, Call::Estimate)?;
+    tally = rates(tally, Call::Acknowledged)?;
+    tally = rates(tally, Call::LinkCapacity)?;
+    tally = rates(tally, Call::Report)?;
+    tally = rates(tally, Call::EmptyReport)?;
+    tally = rates(tally, Call::Summary)?;
+    tally = options(tally)?;
+    tally = summaries(tally)?;
+    tally = no_report(tally)?;
+    Ok(tally)
 }

@@ -6,6 +6,7 @@ use crate::verdict::Tally;
 use bandwidth::Bitrate;
 use loss_controller::{ControllerAnswer, LossController};
 use packets::PacketSize;
+use std::io;
 
 // A report. Its packets were sent at `time`, have `size` bytes and arrived, but for those at the
 // places `odd_time_at`, `odd_size_at` and `odd_flag_at`.
@@ -131,48 +132,51 @@ fn flags(report: Report) -> [u8; 4_097] {
     flags
 }
 
-fn print_report(report: Report) {
-    field(b"report of ", report.times as u64);
-    field(b", ", report.sizes as u64);
-    field(b", ", report.flags as u64);
-    field(b" packets of ", report.size as u64);
-    field(b" bytes at ", report.time);
-    print_odd_time(report.odd_time_at, report.odd_time);
-    print_odd_size(report.odd_size_at, report.odd_size);
-    print_odd_flag(report.odd_flag_at, report.odd_flag);
-    print_delay(report.delay);
+fn print_report(out: &impl Print, report: Report) -> io::Result<()> {
+    field(out, b"report of ", report.times as u64)?;
+    field(out, b", ", report.sizes as u64)?;
+    field(out, b", ", report.flags as u64)?;
+    field(out, b" packets of ", report.size as u64)?;
+    field(out, b" bytes at ", report.time)?;
+    print_odd_time(out, report.odd_time_at, report.odd_time)?;
+    print_odd_size(out, report.odd_size_at, report.odd_size)?;
+    print_odd_flag(out, report.odd_flag_at, report.odd_flag)?;
+    print_delay(out, report.delay)
 }
 
-fn print_odd_time(place: usize, time: u64) {
+fn print_odd_time(out: &impl Print, place: usize, time: u64) -> io::Result<()> {
     if place < NOWHERE {
-        field(b", packet ", place as u64);
-        field(b" at ", time);
+        field(out, b", packet ", place as u64)?;
+        field(out, b" at ", time)?;
     }
+    Ok(())
 }
 
-fn print_odd_size(place: usize, size: PacketSize) {
+fn print_odd_size(out: &impl Print, place: usize, size: PacketSize) -> io::Result<()> {
     if place < NOWHERE {
-        field(b", packet ", place as u64);
-        field(b" of ", size as u64);
-        text(b" bytes");
+        field(out, b", packet ", place as u64)?;
+        field(out, b" of ", size as u64)?;
+        text(out, b" bytes")?;
     }
+    Ok(())
 }
 
-fn print_odd_flag(place: usize, flag: u8) {
+fn print_odd_flag(out: &impl Print, place: usize, flag: u8) -> io::Result<()> {
     if place < NOWHERE {
-        field(b", packet ", place as u64);
-        field(b" with flag ", flag as u64);
+        field(out, b", packet ", place as u64)?;
+        field(out, b" with flag ", flag as u64)?;
     }
+    Ok(())
 }
 
-pub(crate) fn print_delay(delay: f64) {
-    text(b", delay ");
-    print_bits(delay);
+pub(crate) fn print_delay(out: &impl Print, delay: f64) -> io::Result<()> {
+    text(out, b", delay ")?;
+    print_bits(out, delay)
 }
 
 impl Tally {
-    pub(crate) fn report(self, report: Report, expected: u8) -> Tally {
-        print_report(report);
+    pub(crate) fn report(self, report: Report, expected: u8) -> io::Result<Tally> {
+        print_report(&self.out, report)?;
         let start = start(self.use_byte_loss_ratio);
         self.judged(b"", start, send(report, start), expected)
     }
@@ -185,9 +189,10 @@ impl Tally {
         size: u64,
         report: Report,
         expected: u8,
-    ) -> Tally {
-        print_state(count, num_packets, size);
-        print_report(report);
+    ) -> io::Result<Tally> {
+        let out = &self.out;
+        print_state(out, count, num_packets, size)?;
+        print_report(out, report)?;
         let start = controller(self.use_byte_loss_ratio, count, num_packets, size);
         self.judged(b"", start, send(report, start), expected)
     }

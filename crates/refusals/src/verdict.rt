@@ -2,10 +2,12 @@
 use crate::print::{field, print_bits, print_state, text};
 use comparison::Changes;
 use loss_controller::{ControllerAnswer, LossController};
+use std::io::{self, Stdout};
 
-// The cases so far, and the profile of the controllers that they are put to.
+// The cases so far, the profile of the controllers that they are put to, and where they are told.
 #[derive(Clone, Copy)]
 pub(crate) struct Tally {
+    pub(crate) out: Stdout,
     pub(crate) use_byte_loss_ratio: bool,
     pub(crate) cases: u64,
     pub(crate) mismatches: u64,
@@ -18,16 +20,17 @@ impl Tally {
         start: LossController,
         answer: ControllerAnswer,
         expected: u8,
-    ) -> Tally {
+    ) -> io::Result<Tally> {
         let refusal = answer.refusal;
         let controller = answer.controller;
         let changes = comparison::compared(start, controller);
-        text(name);
-        field(b": ", refusal as u64);
-        field(b", expected ", expected as u64);
-        print_changes(changes);
-        print_held(refusal, controller);
-        self.counted(refusal == expected, refusal == 0 || changes.is_none())
+        let out = &self.out;
+        text(out, name)?;
+        field(out, b": ", refusal as u64)?;
+        field(out, b", expected ", expected as u64)?;
+        print_changes(out, changes)?;
+        print_held(out, refusal, controller)?;
+        Ok(self.counted(refusal == expected, refusal == 0 || changes.is_none()))
     }
 
     fn counted(self, is_expected: bool, is_handed_back: bool) -> Tally {
@@ -37,55 +40,62 @@ impl Tally {
             mismatches = std::num::wrapping_add_u64(mismatches, 1);
         }
         Tally {
+            out: self.out,
             use_byte_loss_ratio: self.use_byte_loss_ratio,
             cases,
             mismatches,
         }
     }
 
-    pub(crate) fn print(self) {
-        field(b"cases ", self.cases);
-        field(b", mismatches ", self.mismatches);
-        text(b"\n");
+    pub(crate) fn print(self) -> io::Result<()> {
+        let out = &self.out;
+        field(out, b"cases ", self.cases)?;
+        field(out, b", mismatches ", self.mismatches)?;
+        text(out, b"\n")
     }
 }
 
 // What the controller holds after a call that is taken.
-fn print_held(refusal: u8, controller: LossController) {
+fn print_held(out: &impl Print, refusal: u8, controller: LossController) -> io::Result<()> {
     if refusal == 0 {
         let observations = controller.observations;
         let sums = observations.partial_observation;
         let inputs = controller.inputs;
         let delay_based_estimate = inputs.delay_based_estimate;
-        text(b"; ");
-        print_state(observations.num_observations, sums.num_packets, sums.size);
-        text(b"delay ");
-        print_bits(delay_based_estimate.bps);
+        text(out, b"; ")?;
+        print_state(
+            out,
+            observations.num_observations,
+            sums.num_packets,
+            sums.size,
+        )?;
+        text(out, b"delay ")?;
+        print_bits(out, delay_based_estimate.bps)?;
     }
-    text(b"\n");
+    text(out, b"\n")
 }
 
-fn print_changes(changes: Changes) {
+fn print_changes(out: &impl Print, changes: Changes) -> io::Result<()> {
     if changes.is_none() {
-        text(b", same");
-        return;
+        return text(out, b", same");
     }
-    text(b", changed:");
-    print_part(changes.profile, b" profile");
-    print_part(changes.sums, b" sums");
-    print_part(changes.time, b" time");
-    print_part(changes.count, b" count");
-    print_part(changes.window, b" window");
-    print_part(changes.ceiling, b" ceiling");
-    print_part(changes.estimator, b" estimator");
-    print_part(changes.acknowledged, b" acknowledged");
-    print_part(changes.delay, b" delay");
-    print_part(changes.alr, b" ALR");
-    print_part(changes.capacity, b" capacity");
+    text(out, b", changed:")?;
+    print_part(out, changes.profile, b" profile")?;
+    print_part(out, changes.sums, b" sums")?;
+    print_part(out, changes.time, b" time")?;
+    print_part(out, changes.count, b" count")?;
+    print_part(out, changes.window, b" window")?;
+    print_part(out, changes.ceiling, b" ceiling")?;
+    print_part(out, changes.estimator, b" estimator")?;
+    print_part(out, changes.acknowledged, b" acknowledged")?;
+    print_part(out, changes.delay, b" delay")?;
+    print_part(out, changes.alr, b" ALR")?;
+    print_part(out, changes.capacity, b" capacity")
 }
 
-fn print_part(is_changed: bool, name: &[u8]) {
+fn print_part(out: &impl Print, is_changed: bool, name: &[u8]) -> io::Result<()> {
     if is_changed {
-        text(name);
+        text(out, name)?;
     }
+    Ok(())
 }

@@ -8,35 +8,31 @@ mod results;
 
 use crate::operations::{delta_answer, float_answer, rate_answer, size_answer, time_answer};
 use crate::results::Answer;
-use libc::{STDIN_FILENO, STDOUT_FILENO};
+use std::io;
 
-fn main() {
-    // Nothing says that the input ends, so the loop counts down.
-    let mut left: u64 = u64::MAX;
-    while 0 < left {
-        if !replay_line() {
-            return;
+fn main(rt: HostRuntime) -> io::Result<()> {
+    // Nothing says that the input ends, so the lines are counted.
+    for _ in 0..u64::MAX {
+        if !replay_line(rt)? {
+            break;
         }
-        left -= 1;
     }
+    Ok(())
 }
 
 // Answers one line, if there is a whole one.
-fn replay_line() -> bool {
+fn replay_line(rt: HostRuntime) -> io::Result<bool> {
     let mut line = [0u8; 54];
-    let n = io::read_full(STDIN_FILENO, &mut line);
-    if n < 54 {
-        return false;
+    if !streams::read_line(&mut rt.stdin(), &mut line)? {
+        return Ok(false);
     }
     let operation = hexadecimal::number(&line[0..2]);
     let a = hexadecimal::number(&line[3..19]);
     let b = hexadecimal::number(&line[20..36]);
     let c = hexadecimal::number(&line[37..53]);
     let answer = called(operation, a, b, c);
-    io::print_hex(STDOUT_FILENO, answer.refusal as u64, 1);
-    io::write_all(STDOUT_FILENO, b" ");
-    io::print_hex(STDOUT_FILENO, answer.result, 16);
-    io::write_all(STDOUT_FILENO, b"\n")
+    println!(rt; "{:x} {:016x}", answer.refusal, answer.result)?;
+    Ok(true)
 }
 
 fn called(operation: u64, a: u64, b: u64, c: u64) -> Answer {

@@ -4,9 +4,9 @@
 #![tactic(auto)]
 
 use bandwidth::OptionBitrate;
-use libc::{STDIN_FILENO, STDOUT_FILENO};
 use loss_controller::{ControllerAnswer, LossController, OptionInstant};
 use packets::{PacketResult, PacketSize};
+use std::io::{self, Stdin};
 
 // The queue's places
 const PLACES: usize = 4_096;
@@ -29,36 +29,35 @@ struct Answer {
     refusal: u8,
 }
 
-fn main() {
+fn main(rt: HostRuntime) -> io::Result<()> {
     let mut times = [0u64; PLACES];
     let mut sizes: [PacketSize; PLACES] = [0; PLACES];
     let mut flags = [0u8; PLACES];
     let mut answer = fresh(LossController::new());
-    // Nothing says that the input ends, so the loop counts down.
-    let mut left: u64 = u64::MAX;
-    while 0 < left {
-        let call = read_call();
+    // Nothing says that the input ends, so the lines are counted.
+    for _ in 0..u64::MAX {
+        let call = read_call(&mut rt.stdin())?;
         if !call.is_whole {
-            return;
+            break;
         }
         answer = answered(answer, call, &mut times, &mut sizes, &mut flags);
-        print_answer(answer);
-        left -= 1;
+        print_answer(&rt, answer)?;
     }
+    Ok(())
 }
 
 // ---- input
 
-fn read_call() -> Call {
+fn read_call(input: &mut Stdin) -> io::Result<Call> {
     let mut line = [0u8; 68];
-    let n = io::read_full(STDIN_FILENO, &mut line);
-    Call {
-        is_whole: n == 68,
+    let is_whole = streams::read_line(input, &mut line)?;
+    Ok(Call {
+        is_whole,
         kind: hexadecimal::number(&line[0..16]),
         a: hexadecimal::number(&line[17..33]),
         b: hexadecimal::number(&line[34..50]),
         c: hexadecimal::number(&line[51..67]),
-    }
+    })
 }
 
 // ---- calls
@@ -249,23 +248,20 @@ fn report(before: Answer, call: Call, times: &[u64], sizes: &[PacketSize], flags
 
 // ---- answers
 
-fn print(n: u64, digits: usize) {
-    io::print_hex(STDOUT_FILENO, n, digits);
-    io::write_all(STDOUT_FILENO, b" ");
-}
-
-fn print_answer(answer: Answer) {
+fn print_answer(out: &impl Print, answer: Answer) -> io::Result<()> {
     let controller = answer.controller;
     let result = controller.loss_based_result();
     let state = result.state;
     let ratio = controller.average_reported_loss_ratio();
-    print(answer.refusal as u64, 2);
-    print(state.number() as u64, 1);
     let rate = result.bandwidth_estimate;
-    print(stored_fields::option_case(rate), 1);
-    print(stored_fields::option_bits(rate), 16);
-    print(float::to_bits(controller.inherent_loss()), 16);
-    print(float::to_bits(ratio.value), 16);
-    io::print_hex(STDOUT_FILENO, controller.num_observations(), 8);
-    io::write_all(STDOUT_FILENO, b"\n");
+    let refusal = answer.refusal;
+    let number = state.number();
+    let case = stored_fields::option_case(rate);
+    let bits = stored_fields::option_bits(rate);
+    let loss = float::to_bits(controller.inherent_loss());
+    let ratio = float::to_bits(ratio.value);
+    let count = controller.num_observations();
+    println!(out;
+        "{refusal:02x} {number:x} {case:x} {bits:016x} {loss:016x} {ratio:016x} {count:08x}"
+    )
 }

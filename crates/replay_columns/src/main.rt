@@ -5,43 +5,47 @@
 
 ghost use Rattle.std.specs.Prelude.{◌<◌, length};
 
-use libc::{STDIN_FILENO, STDOUT_FILENO};
+use std::io;
 
 // The bytes of a line: two digits, a space, sixteen digits and the newline
 const LINE: usize = 20;
 
 const WIDEST: usize = 24;
 
-fn main() {
-    // Nothing says that the input ends, so the loop counts down.
-    let mut left: u64 = u64::MAX;
-    while 0 < left {
-        if !replay_line() {
-            return;
+fn main(rt: HostRuntime) -> io::Result<()> {
+    // Nothing says that the input ends, so the lines are counted.
+    for _ in 0..u64::MAX {
+        if !replay_line(rt)? {
+            break;
         }
-        left -= 1;
     }
+    Ok(())
 }
 
 // Answers one line, if there is a whole one.
-fn replay_line() -> bool {
+fn replay_line(rt: HostRuntime) -> io::Result<bool> {
     let mut line = [0u8; LINE];
-    let n = io::read_full(STDIN_FILENO, &mut line);
-    if n < LINE {
-        return false;
+    if !streams::read_line(&mut rt.stdin(), &mut line)? {
+        return Ok(false);
     }
     let width = hexadecimal::number(&line[0..2]);
     if width > WIDEST as u64 {
-        return false;
+        return Ok(false);
     }
     let mut text = [b'\n'; WIDEST + 1];
-    print(&mut text, width as usize, hexadecimal::number(&line[3..19]))
+    print(
+        &rt,
+        &mut text,
+        width as usize,
+        hexadecimal::number(&line[3..19]),
+    )?;
+    Ok(true)
 }
 
 // The number in the first places of a text of newlines, and the one behind them.
-fn print(text: &mut [u8], width: usize, n: u64) -> bool
+fn print(out: &impl Print, text: &mut [u8], width: usize, n: u64) -> io::Result<()>
     requires { width < length text.old }
 {
     call_line::write_number(&mut text[0..width], n);
-    io::write_all(STDOUT_FILENO, &text[0..width + 1])
+    out.write_all(&text[0..width + 1])
 }

@@ -5,8 +5,8 @@
 #![tactic(auto)]
 
 use call_line::Call;
-use libc::{STDIN_FILENO, STDOUT_FILENO};
 use packets::PacketSize;
+use std::io;
 
 // The bytes of a line: five fields of 1, 16, 2, 8 and 2 digits, a space or the newline behind each
 const LINE: usize = 34;
@@ -15,27 +15,25 @@ const LONGEST: usize = 64;
 
 const REFUSAL_WIDTH: usize = 2;
 
-fn main() {
-    // Nothing says that the input ends, so the loop counts down.
-    let mut left: u64 = u64::MAX;
-    while 0 < left {
-        if !replay_line() {
-            return;
+fn main(rt: HostRuntime) -> io::Result<()> {
+    // Nothing says that the input ends, so the lines are counted.
+    for _ in 0..u64::MAX {
+        if !replay_line(rt)? {
+            break;
         }
-        left -= 1;
     }
+    Ok(())
 }
 
 // Answers one line, if there is a whole one.
-fn replay_line() -> bool {
+fn replay_line(rt: HostRuntime) -> io::Result<bool> {
     let mut line = [0u8; LINE];
-    let n = io::read_full(STDIN_FILENO, &mut line);
-    if n < LINE {
-        return false;
+    if !streams::read_line(&mut rt.stdin(), &mut line)? {
+        return Ok(false);
     }
     let room = hexadecimal::number(&line[31..33]);
     if room > LONGEST as u64 {
-        return false;
+        return Ok(false);
     }
     let variant = hexadecimal::number(&line[0..1]);
     let number = hexadecimal::number(&line[2..18]);
@@ -44,7 +42,8 @@ fn replay_line() -> bool {
     let call = call_of(variant, number, lost as u8, size as PacketSize);
     let mut buffer = [b'.'; LONGEST];
     let room = room as usize;
-    print(call, &mut buffer[0..room])
+    print(&rt, call, &mut buffer[0..room])?;
+    Ok(true)
 }
 
 fn call_of(variant: u64, number: u64, lost: u8, size: PacketSize) -> Call {
@@ -68,16 +67,16 @@ fn call_of(variant: u64, number: u64, lost: u8, size: PacketSize) -> Call {
 }
 
 // The refusal, a space, the buffer with the call, and a newline.
-fn print(call: Call, buffer: &mut [u8]) -> bool {
+fn print(out: &impl Print, call: Call, buffer: &mut [u8]) -> io::Result<()> {
     let refusal = call_line::write_line(call, buffer);
     let mut column = [0u8; REFUSAL_WIDTH];
-    print_column(&mut column, refusal as u64);
-    io::write_all(STDOUT_FILENO, b" ");
-    io::write_all(STDOUT_FILENO, buffer);
-    io::write_all(STDOUT_FILENO, b"\n")
+    print_column(out, &mut column, refusal as u64)?;
+    out.write_all(b" ")?;
+    out.write_all(buffer)?;
+    out.write_all(b"\n")
 }
 
-fn print_column(column: &mut [u8], n: u64) -> bool {
+fn print_column(out: &impl Print, column: &mut [u8], n: u64) -> io::Result<()> {
     call_line::write_number(column, n);
-    io::write_all(STDOUT_FILENO, column)
+    out.write_all(column)
 }

@@ -12,36 +12,37 @@ mod steps;
 use crate::fields::{read_estimator, read_observations, read_settings, read_summary, state_of};
 use crate::report::print_report;
 use crate::steps::{bounds, print_candidates, print_likelihood, print_window};
-use libc::STDIN_FILENO;
+use std::io;
 
-fn main() {
-    // Nothing says that the input ends, so the loop counts down.
-    let mut left: u64 = u64::MAX;
-    while 0 < left {
-        if !replay_line() {
-            return;
+fn main(rt: HostRuntime) -> io::Result<()> {
+    // Nothing says that the input ends, so the lines are counted.
+    for _ in 0..u64::MAX {
+        if !replay_line(rt)? {
+            break;
         }
-        left -= 1;
     }
+    Ok(())
 }
 
 // Answers one line, if there is a whole one.
-fn replay_line() -> bool {
+fn replay_line(rt: HostRuntime) -> io::Result<bool> {
     let mut first = [0u8; 17];
-    let n = io::read_full(STDIN_FILENO, &mut first);
-    if n < 17 {
-        return false;
+    let input = &mut rt.stdin();
+    if !streams::read_line(input, &mut first)? {
+        return Ok(false);
     }
     let state = state_of(hexadecimal::number(&first[0..16]));
-    let observations = read_observations();
-    let estimator = read_estimator(state);
-    let settings = read_settings();
-    let summary = read_summary();
-    print_window(observations);
-    print_likelihood(observations, estimator.current_estimate);
+    let observations = read_observations(input)?;
+    let estimator = read_estimator(input, state)?;
+    let settings = read_settings(input)?;
+    let summary = read_summary(input)?;
+    print_window(&rt, observations)?;
+    print_likelihood(&rt, observations, estimator.current_estimate)?;
     print_candidates(
+        &rt,
         bounds(observations, estimator, settings),
         estimator.current_estimate,
-    );
-    print_report(observations, estimator, settings, summary)
+    )?;
+    print_report(&rt, observations, estimator, settings, summary)?;
+    Ok(true)
 }

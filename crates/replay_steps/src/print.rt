@@ -1,51 +1,50 @@
 // Values on standard output, each in its fields.
 use bandwidth::{Bitrate, OptionBitrate, RateAnswer};
 use float::FloatAnswer;
-use libc::STDOUT_FILENO;
 use likelihood::ChannelParameters;
+use std::io;
 use time::Timestamp;
 
-pub(crate) fn number(n: u64) {
-    io::print_hex(STDOUT_FILENO, n, 16);
-    io::write_all(STDOUT_FILENO, b" ");
+pub(crate) fn number(out: &impl Print, n: u64) -> io::Result<()> {
+    print!(out; "{n:016x} ")
 }
 
-pub(crate) fn print_bool(is_true: bool) {
+pub(crate) fn print_bool(out: &impl Print, is_true: bool) -> io::Result<()> {
     if is_true {
-        return number(1);
+        return number(out, 1);
     }
-    number(0);
+    number(out, 0)
 }
 
-pub(crate) fn print_float(x: f64) {
-    number(float::to_bits(x));
+pub(crate) fn print_float(out: &impl Print, x: f64) -> io::Result<()> {
+    number(out, float::to_bits(x))
 }
 
-pub(crate) fn print_rate(rate: Bitrate) {
-    number(stored_fields::rate_bits(rate));
+pub(crate) fn print_rate(out: &impl Print, rate: Bitrate) -> io::Result<()> {
+    number(out, stored_fields::rate_bits(rate))
 }
 
-pub(crate) fn print_refusable(answer: FloatAnswer) {
-    number(answer.refusal as u64);
-    print_float(answer.value);
+pub(crate) fn print_refusable(out: &impl Print, answer: FloatAnswer) -> io::Result<()> {
+    number(out, answer.refusal as u64)?;
+    print_float(out, answer.value)
 }
 
-pub(crate) fn print_refusable_rate(answer: RateAnswer) {
-    number(answer.refusal as u64);
-    print_rate(answer.rate);
+pub(crate) fn print_refusable_rate(out: &impl Print, answer: RateAnswer) -> io::Result<()> {
+    number(out, answer.refusal as u64)?;
+    print_rate(out, answer.rate)
 }
 
-pub(crate) fn print_option(rate: OptionBitrate) {
-    number(stored_fields::option_case(rate));
-    number(stored_fields::option_bits(rate));
+pub(crate) fn print_option(out: &impl Print, rate: OptionBitrate) -> io::Result<()> {
+    number(out, stored_fields::option_case(rate))?;
+    number(out, stored_fields::option_bits(rate))
 }
 
-pub(crate) fn print_time(time: Timestamp) {
-    number(stored_fields::timestamp_case(time));
-    number(stored_fields::timestamp_ns(time));
+pub(crate) fn print_time(out: &impl Print, time: Timestamp) -> io::Result<()> {
+    number(out, stored_fields::timestamp_case(time))?;
+    number(out, stored_fields::timestamp_ns(time))
 }
 
-pub(crate) fn print_parameters(parameters: ChannelParameters) {
-    print_float(parameters.inherent_loss);
-    print_rate(parameters.loss_limited_bandwidth);
+pub(crate) fn print_parameters(out: &impl Print, parameters: ChannelParameters) -> io::Result<()> {
+    print_float(out, parameters.inherent_loss)?;
+    print_rate(out, parameters.loss_limited_bandwidth)
 }

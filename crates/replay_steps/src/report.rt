@@ -3,25 +3,26 @@ use crate::fields::Settings;
 use crate::print::{number, print_bool, print_option, print_parameters, print_rate, print_time};
 use crate::steps::bounds;
 use estimator::{Estimator, EstimatorAnswer, HoldInfo, Report};
-use libc::STDOUT_FILENO;
 use observation::{AddedAnswer, Observations};
 use packets::PacketResultsSummary;
+use std::io;
 
 pub(crate) fn print_report(
+    out: &impl Print,
     observations: Observations,
     estimator: Estimator,
     settings: Settings,
     summary: PacketResultsSummary,
-) -> bool {
+) -> io::Result<()> {
     let slot = (observations.num_observations % 15) as usize;
     let added = observations.maybe_add_observation(summary);
     let updated = updated(added, estimator, settings);
     let refusal = updated.refusal;
-    number(refusal as u64);
+    number(out, refusal as u64)?;
     if refusal != 0 {
-        return print_state(observations, estimator, slot);
+        return print_state(out, observations, estimator, slot);
     }
-    print_state(added.observations, updated.estimator, slot)
+    print_state(out, added.observations, updated.estimator, slot)
 }
 
 // What `update_bandwidth_estimate` does with the estimate once the report is added.
@@ -63,46 +64,50 @@ fn updated(added: AddedAnswer, estimator: Estimator, settings: Settings) -> Esti
 }
 
 // The state, with the packets and the sending rate in a slot of the window.
-fn print_state(observations: Observations, estimator: Estimator, slot: usize) -> bool {
+fn print_state(
+    out: &impl Print,
+    observations: Observations,
+    estimator: Estimator,
+    slot: usize,
+) -> io::Result<()> {
     let state = estimator.state;
-    number(state.number() as u64);
-    print_observations(observations, slot);
-    print_parameters(estimator.current_estimate);
-    print_hold(estimator.last_hold_info);
+    number(out, state.number() as u64)?;
+    print_observations(out, observations, slot)?;
+    print_parameters(out, estimator.current_estimate)?;
+    print_hold(out, estimator.last_hold_info)?;
     let reduced = estimator.last_time_estimate_reduced;
-    print_time(reduced);
+    print_time(out, reduced)?;
     let recovery = estimator.recovery;
     let recovering = recovery.recovering_after_loss_timestamp;
-    print_time(recovering);
+    print_time(out, recovering)?;
     let limit = stored_fields::rate_bits(recovery.bandwidth_limit_in_current_window);
-    io::print_hex(STDOUT_FILENO, limit, 16);
-    io::write_all(STDOUT_FILENO, b"\n")
+    println!(out; "{limit:016x}")
 }
 
-fn print_observations(observations: Observations, slot: usize) {
-    print_bool(observations.use_byte_loss_ratio);
-    number(observations.num_observations);
+fn print_observations(out: &impl Print, observations: Observations, slot: usize) -> io::Result<()> {
+    print_bool(out, observations.use_byte_loss_ratio)?;
+    number(out, observations.num_observations)?;
     let partial = observations.partial_observation;
-    number(partial.num_packets);
-    number(partial.num_lost_packets);
-    number(partial.size);
-    number(partial.lost_size);
+    number(out, partial.num_packets)?;
+    number(out, partial.num_lost_packets)?;
+    number(out, partial.size)?;
+    number(out, partial.lost_size)?;
     let last_send_time = observations.last_send_time_most_recent_observation;
-    print_time(last_send_time);
+    print_time(out, last_send_time)?;
     let cached = observations.cached_instant_upper_bound;
-    print_option(cached);
+    print_option(out, cached)?;
     let window = observations.observations;
     let observation = window[slot % 15];
-    number(observation.num_packets);
-    number(observation.num_lost_packets);
-    number(observation.num_received_packets);
-    print_rate(observation.sending_rate);
+    number(out, observation.num_packets)?;
+    number(out, observation.num_lost_packets)?;
+    number(out, observation.num_received_packets)?;
+    print_rate(out, observation.sending_rate)
 }
 
-fn print_hold(hold: HoldInfo) {
+fn print_hold(out: &impl Print, hold: HoldInfo) -> io::Result<()> {
     let timestamp = hold.timestamp;
-    print_time(timestamp);
+    print_time(out, timestamp)?;
     let duration = hold.duration;
-    number(duration.nanos);
-    print_rate(hold.rate);
+    number(out, duration.nanos)?;
+    print_rate(out, hold.rate)
 }

@@ -7,15 +7,20 @@ use candidates::Bounds;
 use estimator::Estimator;
 use likelihood::ChannelParameters;
 use observation::Observations;
+use std::io;
 
-pub(crate) fn print_window(observations: Observations) {
+pub(crate) fn print_window(out: &impl Print, observations: Observations) -> io::Result<()> {
     let ratio = observations.average_reported_loss_ratio();
-    print_float(ratio.value);
-    print_refusable_rate(observations.calculate_instant_upper_bound());
-    print_rate(observations.get_instant_upper_bound());
+    print_float(out, ratio.value)?;
+    print_refusable_rate(out, observations.calculate_instant_upper_bound())?;
+    print_rate(out, observations.get_instant_upper_bound())
 }
 
-pub(crate) fn print_likelihood(observations: Observations, current: ChannelParameters) {
+pub(crate) fn print_likelihood(
+    out: &impl Print,
+    observations: Observations,
+    current: ChannelParameters,
+) -> io::Result<()> {
     let rate = current.loss_limited_bandwidth;
     let window = observations.observations;
     let slot = window[0];
@@ -23,17 +28,26 @@ pub(crate) fn print_likelihood(observations: Observations, current: ChannelParam
     let rows = rows.rows;
     let ratio = observations.average_reported_loss_ratio();
     let ratio = ratio.value;
-    print_float(likelihood::get_inherent_loss_upper_bound(rate));
-    print_float(likelihood::get_feasible_inherent_loss(current));
-    print_float(likelihood::get_loss_probability(current.inherent_loss, rate, slot.sending_rate));
-    print_float(likelihood::adjust_bias_factor(ratio, config::HIGHER_BANDWIDTH_BIAS_FACTOR));
+    print_float(out, likelihood::get_inherent_loss_upper_bound(rate))?;
+    print_float(out, likelihood::get_feasible_inherent_loss(current))?;
+    print_float(
+        out,
+        likelihood::get_loss_probability(current.inherent_loss, rate, slot.sending_rate),
+    )?;
+    print_float(
+        out,
+        likelihood::adjust_bias_factor(ratio, config::HIGHER_BANDWIDTH_BIAS_FACTOR),
+    )?;
     let derivatives = likelihood::get_derivatives(rows, current);
-    print_float(derivatives.first);
-    print_float(derivatives.second);
-    print_refusable(likelihood::get_high_bandwidth_bias(rate, ratio));
+    print_float(out, derivatives.first)?;
+    print_float(out, derivatives.second)?;
+    print_refusable(out, likelihood::get_high_bandwidth_bias(rate, ratio))?;
     let use_byte_loss_ratio = observations.use_byte_loss_ratio;
-    print_refusable(likelihood::get_objective(use_byte_loss_ratio, rows, ratio, current));
-    print_parameters(likelihood::newtons_method_update(rows, current));
+    print_refusable(
+        out,
+        likelihood::get_objective(use_byte_loss_ratio, rows, ratio, current),
+    )?;
+    print_parameters(out, likelihood::newtons_method_update(rows, current))
 }
 
 pub(crate) fn bounds(
@@ -62,15 +76,19 @@ pub(crate) fn bounds(
     }
 }
 
-pub(crate) fn print_candidates(bounds: Bounds, current: ChannelParameters) {
-    print_rate(candidates::get_candidate_bandwidth_upper_bound(bounds));
+pub(crate) fn print_candidates(
+    out: &impl Print,
+    bounds: Bounds,
+    current: ChannelParameters,
+) -> io::Result<()> {
+    print_rate(out, candidates::get_candidate_bandwidth_upper_bound(bounds))?;
     let candidates = candidates::get_candidates(current, bounds);
-    number(candidates.count);
+    number(out, candidates.count)?;
     let places = candidates.places;
-    print_parameters(places[0]);
-    print_parameters(places[1]);
-    print_parameters(places[2]);
-    print_parameters(places[3]);
-    print_parameters(places[4]);
-    print_parameters(places[5]);
+    print_parameters(out, places[0])?;
+    print_parameters(out, places[1])?;
+    print_parameters(out, places[2])?;
+    print_parameters(out, places[3])?;
+    print_parameters(out, places[4])?;
+    print_parameters(out, places[5])
 }

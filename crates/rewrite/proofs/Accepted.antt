@@ -48,6 +48,8 @@ last_written l call e = from_open l (taken_clear l call e) ∙ last_text l (take
 first_lines :
     (ls : List (List ℕ)) (calls : List Call) → Say ls calls → (t : List ℕ) → rewritten (joined (map closed ls) ++ t) ≡ list_text calls ++ rewritten t
 unfolding joined
+first_lines [] (call ∷ calls) x'' t = elim x'' [ ]
+first_lines (l ∷ ls) [] x3 t = elim x3 [ ]
 first_lines [] [] none t = refl
 first_lines (l ∷ ls) (call ∷ calls) (one _ _ _ _ e h) t =
     let j = joined (map closed ls) in
@@ -66,6 +68,8 @@ open_written ls calls l call h e = first_lines ls calls h l ∙ ap (λ (u : List
 -- ---- the list that is written
 
 writable : (ls : List (List ℕ)) (calls : List Call) → Say ls calls → Writable calls
+writable [] (call ∷ calls) x'' = elim x'' [ ]
+writable (l ∷ ls) [] x3 = elim x3 [ ]
 writable [] [] none = tt
 writable (l ∷ ls) (call ∷ calls) (one _ _ _ _ e h) = ((taken_of_type l call e, taken_allowed l call e), writable ls calls h)
 
@@ -80,6 +84,8 @@ comes_back l call w e = ap closed (wide_read l call w e)
 
 wide_list : (ls : List (List ℕ)) (calls : List Call) → Say ls calls → AllWide ls → list_text calls ≡ joined (map closed ls)
 unfolding joined
+wide_list [] (call ∷ calls) x4 w = elim x4 [ ]
+wide_list (l ∷ ls) [] x4 w = elim x4 [ ]
 wide_list [] [] none w = refl
 wide_list (l ∷ ls) (call ∷ calls) (one _ _ _ _ e h) w = rw (comes_back l call w.0 e, wide_list ls calls h w.1)
 

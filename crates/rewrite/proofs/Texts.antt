@@ -5,7 +5,6 @@ use mathlib.Core.List.{List}
 use native.Mathlib.Omega.{arith}
 use borrow.Rule.Slice.PartMut.{mid_of, put_mid, mid_len}
 use lib.ListN.{length, set, length-append}
-use Rattle.buffer.specs.Laid.{laid}
 use Rattle.buffer.proofs.Laying.{mid_laid, byte_laid}
 use Rattle.call_line.specs.Column.{column}
 use Rattle.call_line.specs.Line.{line_of}

@@ -10,7 +10,6 @@ ghost use Rattle.rewrite.specs.Program.{Finishes, Turned, Stops};
 
 use call_line::{Call, Line};
 use call_list::{KEPT, REFUSAL_WIDTH};
-use libc::{STDERR_FILENO, STDIN_FILENO, STDOUT_FILENO};
 
 // The most that a line is answered: a line in shape and its newline
 const TEXT: usize = call_line::LINE_WIDTH + 1;
@@ -36,11 +35,25 @@ struct Stop {
     written: usize,
 }
 
-fn main() {
-    let mut chunk = [0u8; CHUNK];
-    let mut out = [0u8; ROOM];
-    let stop = rewrite_all(&mut chunk, &mut out);
-    complain(stop.got, stop.wrote);
+fn main(rt: HostRuntime) -> std::io::Result<()> {
+    let mut chunk = empty_chunk();
+    let mut out = empty_room();
+    let stop = rewrite_all(rt, &mut chunk, &mut out);
+    complain(&rt, stop.got, stop.wrote)
+}
+
+// The buffers are zeros. What these two promise is their lengths alone, so that no proof computes with
+// so many bytes.
+fn empty_chunk() -> [u8; CHUNK]
+    ensures { length result ≡ 16384 }
+{
+    [0; CHUNK]
+}
+
+fn empty_room() -> [u8; ROOM]
+    ensures { length result ≡ 835584 }
+{
+    [0; ROOM]
 }
 
 // ---- one line
@@ -136,18 +149,18 @@ fn take_turn(got: isize, line: [u8; KEPT], len: usize, chunk: &[u8], out: &mut [
 
 // A proved loop has to end, and nothing says that the input does: the turns are counted down from a
 // number that no run uses up.
-fn rewrite_all(chunk: &mut [u8], out: &mut [u8]) -> Stop
+fn rewrite_all(rt: HostRuntime, chunk: &mut [u8], out: &mut [u8]) -> Stop
     requires { (line_bytes * length chunk.old ≤ length out.old) × (line_bytes ≤ length out.old) }
     ensures { Stops result out.new }
 {
     let mut line = [0u8; KEPT];
     let mut len = 0;
     let mut left = u64::MAX;
-    loop {
-        let got = libc::read(STDIN_FILENO, chunk);
+    'turns: loop {
+        let got = streams::read_chunk(&mut rt.stdin(), chunk);
         let fed = take_turn(got, line, len, chunk, out);
         let written = fed.written;
-        let wrote = io::write_all(STDOUT_FILENO, &out[..written]);
+        let wrote = streams::write_all(&rt, &out[..written]);
         let stop = Stop {
             got,
             wrote,
@@ -169,11 +182,12 @@ fn rewrite_all(chunk: &mut [u8], out: &mut [u8]) -> Stop
 }
 
 // One line on standard error for a run that could not write its whole input anew.
-fn complain(got: isize, wrote: bool) {
+fn complain(rt: &impl Eprint, got: isize, wrote: bool) -> std::io::Result<()> {
     if got < 0 {
-        io::write_all(STDERR_FILENO, b"rewrite: the input cannot be read\n");
+        eprintln!(rt; "rewrite: the input cannot be read")?;
     }
     if !wrote {
-        io::write_all(STDERR_FILENO, b"rewrite: the lines cannot be written\n");
+        eprintln!(rt; "rewrite: the lines cannot be written")?;
     }
+    Ok(())
 }
