@@ -15,6 +15,9 @@ const CHUNK: usize = 16_384;
 
 const ROOM: usize = CHUNK * ROW;
 
+// What a read answers at the end of the input
+const END: isize = 0;
+
 // The last turn: what its read answered, whether its write took all, and what it left.
 #[derive(Clone, Copy)]
 struct Stop {
@@ -98,7 +101,7 @@ fn take_turn(
             written: 0,
         };
     }
-    if got == 0 {
+    if got == END {
         return call_list::finish(state, times, sizes, flags, out);
     }
     let n = io::count(got, chunk);

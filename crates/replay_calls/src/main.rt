@@ -248,20 +248,22 @@ fn report(before: Answer, call: Call, times: &[u64], sizes: &[PacketSize], flags
 
 // ---- answers
 
+fn print(out: &impl Print, n: u64, digits: usize) -> io::Result<()> {
+    print!(out; "{n:0digits$x} ")
+}
+
 fn print_answer(out: &impl Print, answer: Answer) -> io::Result<()> {
     let controller = answer.controller;
     let result = controller.loss_based_result();
     let state = result.state;
     let ratio = controller.average_reported_loss_ratio();
+    print(out, answer.refusal as u64, 2)?;
+    print(out, state.number() as u64, 1)?;
     let rate = result.bandwidth_estimate;
-    let refusal = answer.refusal;
-    let number = state.number();
-    let case = stored_fields::option_case(rate);
-    let bits = stored_fields::option_bits(rate);
-    let loss = float::to_bits(controller.inherent_loss());
-    let ratio = float::to_bits(ratio.value);
+    print(out, stored_fields::option_case(rate), 1)?;
+    print(out, stored_fields::option_bits(rate), 16)?;
+    print(out, float::to_bits(controller.inherent_loss()), 16)?;
+    print(out, float::to_bits(ratio.value), 16)?;
     let count = controller.num_observations();
-    println!(out;
-        "{refusal:02x} {number:x} {case:x} {bits:016x} {loss:016x} {ratio:016x} {count:08x}"
-    )
+    println!(out; "{count:08x}")
 }

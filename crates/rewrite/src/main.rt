@@ -19,6 +19,9 @@ const CHUNK: usize = 16_384;
 
 const ROOM: usize = CHUNK * TEXT;
 
+// How long the line so far is where there is none
+const NONE: usize = 0;
+
 // What a chunk leaves: the line so far, and how much is written.
 #[derive(Clone, Copy)]
 struct Fed {
@@ -122,7 +125,7 @@ fn finish(line: [u8; KEPT], len: usize, out: &mut [u8]) -> usize
     requires { (len ≤ kept) × (line_bytes ≤ length out.old) }
     ensures { Finishes result out.new line len out.old }
 {
-    if len == 0 {
+    if len == NONE {
         return 0;
     }
     put_line(&line[..len], out, 0)

@@ -115,8 +115,8 @@ fn unequal(out: &impl Print, controller: LossController) -> io::Result<LossContr
     by_columns(out, controller, &times, &sizes, &flags)
 }
 
-// One packet more than a report may have. `of_records` lends an array of three, and its proof is for
-// that length: what `update_records` does with 4,097 is its contract's.
+// One packet more than a report may have. `of_records` lends an array of three: what `update_records`
+// does with 4,097 is its contract's.
 fn too_many(out: &impl Print, controller: LossController) -> io::Result<LossController> {
     let times = [800_000_000; 4_097];
     let sizes = [1_200; 4_097];

@@ -9,5 +9,5 @@ pub returns : goal.returns
 returns c =
     let n : c.count-n.result ≡ clamp_len c.args.got (length c.args.chunk.now) = rw (read_is c.ranges.got) at c.count-n.ensures.value in
     turn_fed _ _ _ _ _ c.args.state c.args.times.now c.args.sizes.now c.args.flags.now c.args.chunk.now c.args.out.now
-    c.args.got (rw (read_is c.ranges.got) at c.if-got-lt0.false) (not_zero c.if-got-eq0.false)
+    c.args.got (rw (read_is c.ranges.got) at c.if-got-lt0.false) (not_zero c.if-got-eq-END.false)
     (rw (← n) c.feed.ensures)
