@@ -1,7 +1,7 @@
 -- A line in two parts, as the code goes about it: what it leaves of the queue, and, where it calls the controller, what that answers. A line that does not
 -- call it need not touch it, which is large. They serve the contracts of private functions; that both make `after_of` is `after_is` in proofs/Turning.
 -- Definitions only.
-use Rattle.std.specs.Prelude.{ℕ, ◌+◌, Bool, true, false, cond, List, ltb}
+use Rattle.std.specs.Prelude.{ℕ, Bool, true, false, cond, ltb}
 use Rattle.bandwidth.specs.declared.OptionBitrate.TheVariants.{Some, None}
 use Rattle.loss_controller.specs.Controller.{initial, answered}
 use Rattle.loss_controller.specs.Setters.{rate_of, set_bandwidth_estimate, set_acknowledged_bitrate, set_alr_start_time, set_link_capacity_estimate}

@@ -36,8 +36,7 @@ pub enum PartialOrdering {
 // From here on every float is a whole number.
 const ALL_WHOLE: f64 = 4503599627370496.0;
 
-// A constant cannot hold an infinity in this kit, so functions stand for f64::INFINITY and
-// f64::NEG_INFINITY.
+// Functions stand for f64::INFINITY and f64::NEG_INFINITY.
 pub fn infinity() -> f64
     ensures { result ≡ inf false }
 {

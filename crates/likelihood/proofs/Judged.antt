@@ -8,7 +8,7 @@ use lib.Dec.{T}
 use lib.Ieee.{Float, eq, is_nan, of_bits}
 use lib.Ieee.Bits.{is_true}
 use lib.Ieee.Scale.{finite}
-use Rattle.float.specs.Rounded.{bits, one, ◌⊕◌, ◌⊖◌}
+use Rattle.float.specs.Rounded.{one, ◌⊕◌, ◌⊖◌}
 use Rattle.float.specs.declared.FloatAnswer.{FloatAnswer}
 use Rattle.float.proofs.Each.{Each, each_fold, each_of_fold}
 use Rattle.float.proofs.Extremes.{minimum_by}

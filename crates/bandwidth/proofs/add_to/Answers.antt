@@ -1,5 +1,5 @@
 -- `add_to` meets its contract. Assumes nothing.
-use Rattle.std.proofs.Common.{rules, eq-eqb, ne_eqb}
+use Rattle.std.proofs.Common.{eq-eqb, ne_eqb}
 use Rattle.bandwidth.proofs.Field.{field}
 use Rattle.bandwidth.specs.Size.{add_to}
 use Rattle.bandwidth.proofs.add_to.Goals as goal

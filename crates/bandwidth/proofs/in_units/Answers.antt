@@ -1,5 +1,5 @@
 -- `in_units` meets its contract: the product is compared with the range by a division. Assumes nothing.
-use Rattle.std.proofs.Common.{rules, le-ltb, lt-ltb}
+use Rattle.std.proofs.Common.{le-ltb, lt-ltb}
 use Rattle.bandwidth.proofs.Units.{within, beyond}
 use Rattle.bandwidth.specs.Rate.{whole_rate}
 use Rattle.bandwidth.proofs.in_units.Goals as goal

@@ -1,6 +1,5 @@
 -- `better` meets its contract. Assumes nothing.
 use borrow.Author.Tests.{eq-eqb, ne_eqb}
-use borrow.Author.Rules.{rules}
 use Rattle.candidates.specs.Choice.{better}
 use Rattle.candidates.proofs.better.Goals as goal
 

@@ -1,5 +1,4 @@
 -- `candidate` meets its contract. Assumes nothing.
-use borrow.Author.Rules.{rules}
 use Rattle.candidates.specs.Candidate.{candidate, cut}
 use Rattle.candidates.proofs.candidate.Goals as goal
 

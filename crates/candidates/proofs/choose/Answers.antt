@@ -1,14 +1,11 @@
 -- `choose` meets its contract. The loop's invariant: what is left of the places in use leads from the best so far to the best of all.
 -- Assumes nothing.
-use Prim.Native.Nat.{◌≤◌, ◌-◌}
-use mathlib.Core.Path.{◌≡◌, refl}
-use mathlib.Core.List.{foldl}
+use mathlib.Core.Path.{◌≡◌}
 use native.Mathlib.Omega.{arith}
-use borrow.Author.Rules.{rules}
-use lib.ListN.{drop, take, length, length-map}
+use lib.ListN.{take, length}
 use lib.Seq.{length-take-le}
 use Rattle.float.proofs.Fold.{fold_again_take, fold_end}
-use Rattle.candidates.specs.Choice.{better, choice}
+use Rattle.candidates.specs.Choice.{choice}
 use Rattle.candidates.proofs.choose.Goals as goal
 
 pub loop-i-preserved : goal.loop-i-preserved

@@ -1,14 +1,10 @@
 -- `choose` meets its contract. The loop's invariant: what is left of the places in use leads from the best so far to the best of all.
 -- Assumes nothing.
 use Prim.Native.Nat.{◌≤◌, ◌-◌}
-use mathlib.Core.Path.{◌≡◌, refl}
+use mathlib.Core.Path.{◌≡◌}
 use mathlib.Core.List.{foldl}
-use native.Mathlib.Omega.{arith}
-use borrow.Author.Rules.{rules}
-use lib.ListN.{drop, take, length, length-map}
-use lib.Seq.{length-take-le}
-use Rattle.float.proofs.Fold.{fold_again_take, fold_end}
-use Rattle.candidates.specs.Choice.{better, choice}
+use lib.ListN.{drop, take, length}
+use Rattle.candidates.specs.Choice.{better}
 use Rattle.candidates.proofs.choose.Given as goal
 
 -- look ratio taken for l.average_reported_loss_ratio

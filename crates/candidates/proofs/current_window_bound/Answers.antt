@@ -1,5 +1,4 @@
 -- `current_window_bound` meets its contract. Assumes nothing.
-use borrow.Author.Rules.{rules}
 use Rattle.candidates.specs.Bound.{in_window}
 use Rattle.candidates.proofs.current_window_bound.Goals as goal
 

@@ -1,6 +1,4 @@
 -- `get_candidate_bandwidth_upper_bound` meets its contract. Assumes nothing.
-use borrow.Author.Rules.{rules}
-use borrow.Author.Tests.{not-true, not-false}
 use Rattle.candidates.specs.Bound.{upper_bound}
 use Rattle.candidates.proofs.get_candidate_bandwidth_upper_bound.Goals as goal
 

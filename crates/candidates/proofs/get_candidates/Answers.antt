@@ -1,5 +1,4 @@
 -- `get_candidates` meets its contract. Assumes nothing.
-use borrow.Author.Rules.{rules}
 use Rattle.candidates.specs.Bound.{upper_bound}
 use Rattle.candidates.specs.Candidate.{bandwidths, candidate, candidates}
 use Rattle.candidates.proofs.Places.{pushed_are_placed}

@@ -1,5 +1,4 @@
 -- `is_above` meets its contract. Assumes nothing.
-use borrow.Author.Rules.{rules}
 use Rattle.candidates.specs.Candidate.{above}
 use Rattle.candidates.proofs.is_above.Goals as goal
 

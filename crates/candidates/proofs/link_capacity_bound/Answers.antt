@@ -1,5 +1,4 @@
 -- `link_capacity_bound` meets its contract. Assumes nothing.
-use borrow.Author.Rules.{rules}
 use Rattle.candidates.specs.Bound.{capacity}
 use Rattle.candidates.proofs.link_capacity_bound.Goals as goal
 

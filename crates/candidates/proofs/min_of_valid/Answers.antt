@@ -1,5 +1,4 @@
 -- `min_of_valid` meets its contract. Assumes nothing.
-use borrow.Author.Rules.{rules}
 use Rattle.candidates.specs.Bound.{at_most}
 use Rattle.candidates.proofs.min_of_valid.Goals as goal
 

@@ -1,5 +1,4 @@
 -- `rampup_acceleration` meets its contract. Assumes nothing.
-use borrow.Author.Rules.{rules}
 use Rattle.candidates.specs.Bound.{acceleration}
 use Rattle.candidates.proofs.rampup_acceleration.Goals as goal
 

@@ -1,5 +1,4 @@
 -- `scaled` meets its contract. Assumes nothing.
-use borrow.Author.Rules.{rules}
 use Rattle.candidates.specs.Candidate.{scaled}
 use Rattle.candidates.proofs.scaled.Goals as goal
 

@@ -1,5 +1,4 @@
 -- `same_estimator` is its definition, call by call. Assumes nothing.
-use borrow.Author.Rules.{rules}
 use Rattle.comparison.specs.Same as Same
 use Rattle.comparison.proofs.same_estimator.Goals as goal
 

@@ -1,5 +1,5 @@
 -- `nearest_nanos` meets its contract: its two casts are the law `split`. Assumes nothing.
-use Rattle.std.proofs.Common.{sym, ◌∙◌, rules}
+use Rattle.std.proofs.Common.{sym, ◌∙◌}
 use Rattle.duration.proofs.Nanos.{split}
 use Rattle.duration.proofs.nearest_nanos.Goals as goal
 

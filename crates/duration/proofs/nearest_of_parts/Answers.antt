@@ -1,5 +1,5 @@
 -- `nearest_of_parts` meets its contract: each of its three answers is one law on the half of a ns that the rest is in. Assumes nothing.
-use Rattle.std.proofs.Common.{arith, rules}
+use Rattle.std.proofs.Common.{arith}
 use Rattle.duration.proofs.Nanos.{units_small, rounds_down, rounds_even, rounds_up}
 use Rattle.duration.proofs.nearest_of_parts.Goals as goal
 use Rattle.duration.proofs.nearest_of_parts.Goals.{then-part-half-2+else-over-eq0, else-part-half-2}

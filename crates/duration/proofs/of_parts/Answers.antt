@@ -1,5 +1,5 @@
 -- `of_parts` meets its contract: its test is whether the sum fits a u64. Assumes nothing.
-use Rattle.std.proofs.Common.{arith, rules}
+use Rattle.std.proofs.Common.{arith}
 use Rattle.duration.proofs.Parted.{fitted_inside, fitted_outside}
 use Rattle.duration.proofs.of_parts.Goals as goal
 

@@ -1,5 +1,4 @@
 -- `estimator::doubled` meets its contract. Assumes nothing.
-use borrow.Author.Rules.{rules}
 use Rattle.estimator.specs.Hold.{doubled, twice}
 use Rattle.estimator.proofs.doubled.Goals as goal
 

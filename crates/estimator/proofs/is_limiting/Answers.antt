@@ -1,5 +1,4 @@
 -- `estimator::is_limiting` meets its contract. Assumes nothing.
-use borrow.Author.Rules.{rules}
 use Rattle.estimator.specs.Update.{is_limiting}
 use Rattle.estimator.proofs.is_limiting.Goals as goal
 

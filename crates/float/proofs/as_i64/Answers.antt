@@ -1,6 +1,5 @@
 -- `float::as_i64` meets its contract: outside the range of `truncating_f64_to_i64` the cast is an end of the range, or 0.
 -- Assumes nothing.
-use Rattle.std.proofs.Common.{rules}
 use lib.Ieee.{neg, of_bits}
 use Rattle.float.proofs.Values.{yes}
 use Rattle.float.proofs.Limits.{signed_top, signed_bottom, signed_nan}

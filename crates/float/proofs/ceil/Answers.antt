@@ -1,6 +1,6 @@
 -- `float::ceil` meets its contract: a float that is zero or at least 2 ^ 52 in size has no fraction, and of the others the whole part is cast exactly.
 -- `h` is the place after the test for zero. Assumes nothing.
-use Rattle.std.proofs.Common.{arith, rules}
+use Rattle.std.proofs.Common.{arith}
 use Rattle.float.proofs.Values.{below_zero, not_below_zero, zero_unbroken, large_unbroken, small, ceiling_same, cast_small, ceil_negative}
 use Rattle.float.proofs.Values.{ceil_above, ceil_level}
 use Rattle.float.proofs.ceil.Goals as goal

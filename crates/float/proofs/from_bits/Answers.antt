@@ -1,5 +1,4 @@
 -- `float::from_bits` meets its contract: the test is the one comparison that tells a NaN's pattern. Assumes nothing.
-use Rattle.std.proofs.Common.{rules}
 use lib.Ieee.{of_bits, div}
 use Rattle.float.proofs.Limits.{nan_pattern, no_nan_pattern}
 use Rattle.float.proofs.from_bits.Goals as goal

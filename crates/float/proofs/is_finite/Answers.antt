@@ -1,5 +1,4 @@
 -- `float::is_finite` meets its contract: what lies between the infinities is finite. Assumes nothing.
-use Rattle.std.proofs.Common.{rules}
 use Rattle.float.proofs.Limits.{below_infinity, not_below_infinity}
 use Rattle.float.proofs.is_finite.Goals as goal
 

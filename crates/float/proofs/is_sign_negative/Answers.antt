@@ -1,5 +1,4 @@
 -- `float::is_sign_negative` meets its contract: the highest bit is the sign. Assumes nothing.
-use Rattle.std.proofs.Common.{rules}
 use Rattle.float.proofs.Limits.{sign_of_bits}
 use Rattle.float.proofs.Values.{yes}
 use Rattle.float.proofs.is_sign_negative.Goals as goal

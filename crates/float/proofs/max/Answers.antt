@@ -1,5 +1,4 @@
 -- `float::max` meets its contract: each return is the branch of `maximum` that the tests before it choose. Assumes nothing.
-use Rattle.std.proofs.Common.{rules}
 use Rattle.float.specs.Rust.{maximum}
 use Rattle.float.proofs.max.Goals as goal
 

@@ -1,5 +1,4 @@
 -- `float::min` meets its contract: each return is the branch of `minimum` that the tests before it choose. Assumes nothing.
-use Rattle.std.proofs.Common.{rules}
 use Rattle.float.specs.Rust.{minimum}
 use Rattle.float.proofs.min.Goals as goal
 

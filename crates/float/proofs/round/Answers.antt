@@ -1,6 +1,6 @@
 -- `float::round` meets its contract: a float that is zero or at least 2 ^ 52 in size has no fraction, and of the others the double is exact.
 -- `h` is the place after the test for zero. Assumes nothing.
-use Rattle.std.proofs.Common.{arith, rules}
+use Rattle.std.proofs.Common.{arith}
 use Rattle.float.proofs.Values.{below_zero, not_below_zero, zero_unbroken, large_unbroken, small, half_away_same, halves_small, round_negative}
 use Rattle.float.proofs.Values.{round_other}
 use Rattle.float.proofs.round.Goals as goal

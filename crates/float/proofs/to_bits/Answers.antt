@@ -1,5 +1,4 @@
 -- `float::to_bits` meets its contract: at a NaN the library writes the same pattern. Assumes nothing.
-use Rattle.std.proofs.Common.{rules}
 use Rattle.float.proofs.Limits.{nan_bits_lem, not_nan}
 use Rattle.float.proofs.to_bits.Goals as goal
 

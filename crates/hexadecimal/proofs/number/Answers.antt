@@ -1,9 +1,6 @@
 -- `number` meets its contract. The loop's invariant: what is left of the text, put behind the number so far, gives the whole. Assumes nothing.
-use mathlib.Core.Path.{◌≡◌, refl}
-use mathlib.Core.List.{foldl}
-use Prim.Native.Nat.{◌≤◌, ◌-◌}
+use mathlib.Core.Path.{refl}
 use borrow.Author.Rules.{rules}
-use lib.ListN.{length, drop}
 use Rattle.float.proofs.Fold.{fold_again, fold_end}
 use Rattle.hexadecimal.specs.Digits.{with_digit, value}
 use Rattle.hexadecimal.proofs.number.Goals as goal

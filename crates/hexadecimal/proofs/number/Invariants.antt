@@ -1,10 +1,8 @@
 -- `number` meets its contract. The loop's invariant: what is left of the text, put behind the number so far, gives the whole. Assumes nothing.
-use mathlib.Core.Path.{◌≡◌, refl}
+use mathlib.Core.Path.{◌≡◌}
 use mathlib.Core.List.{foldl}
 use Prim.Native.Nat.{◌≤◌, ◌-◌}
-use borrow.Author.Rules.{rules}
 use lib.ListN.{length, drop}
-use Rattle.float.proofs.Fold.{fold_again, fold_end}
 use Rattle.hexadecimal.specs.Digits.{with_digit, value}
 use Rattle.hexadecimal.proofs.number.Given as goal
 

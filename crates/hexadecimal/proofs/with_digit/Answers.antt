@@ -1,5 +1,4 @@
 -- `with_digit` meets its contract. Assumes nothing.
-use borrow.Author.Rules.{rules}
 use Rattle.hexadecimal.specs.Digits.{with_digit}
 use Rattle.hexadecimal.proofs.with_digit.Goals as goal
 

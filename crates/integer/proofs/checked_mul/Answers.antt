@@ -1,6 +1,5 @@
 -- `integer::checked_mul` meets its contract: the product by signs and magnitudes. Assumes nothing.
 use native.Mathlib.Omega.{arith}
-use borrow.Author.Rules.{rules}
 use Rattle.integer.proofs.Signed.{zero_answered, product_refused, product_fits, product_of}
 use Rattle.integer.proofs.checked_mul.Goals as goal
 

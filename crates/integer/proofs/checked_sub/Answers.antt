@@ -1,6 +1,5 @@
 -- `integer::checked_sub` meets its contract. Assumes nothing.
 use mathlib.Core.Path.{sym, ◌∙◌}
-use borrow.Author.Rules.{rules}
 use Rattle.std.specs.Prelude.{◌-ℤ◌}
 use Rattle.integer.proofs.Signed.{in_fits, op_answered, op_refused}
 use Rattle.integer.proofs.checked_sub.Goals as goal

@@ -1,7 +1,6 @@
 -- `integer::from_u64` meets its contract. Assumes nothing.
 use Rattle.std.specs.Prelude.{◌^◌}
 use native.Mathlib.Omega.{arith}
-use borrow.Author.Rules.{rules}
 use borrow.Author.Tests.{le-ltb}
 use Rattle.integer.specs.Fitted.{in_i64}
 use Rattle.integer.proofs.Signed.{answered, refused}

@@ -1,6 +1,5 @@
 -- `integer::magnitude` meets its contract. Assumes nothing.
 use native.Mathlib.Omega.{arith}
-use borrow.Author.Rules.{rules}
 use Rattle.integer.proofs.Signed.{cast_fits, complement_fits, complement_read, nat_abs_is}
 use Rattle.integer.proofs.magnitude.Goals as goal
 

@@ -1,6 +1,5 @@
 -- `integer::negated` meets its contract. Assumes nothing.
 use native.Mathlib.Omega.{arith}
-use borrow.Author.Rules.{rules}
 use Rattle.std.specs.Prelude.{pos, neg_ℤ}
 use lib.IntN.{+ℤ_idl}
 use mir.Syntax.{w64}

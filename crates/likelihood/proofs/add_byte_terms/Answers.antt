@@ -1,5 +1,4 @@
 -- `add_byte_terms` meets its contract. Assumes nothing.
-use borrow.Author.Rules.{rules}
 use borrow.Author.Tests.{eq-eqb, ne_eqb}
 use Rattle.likelihood.specs.Objective.{with_terms, terms}
 use Rattle.likelihood.proofs.add_byte_terms.Goals as goal

@@ -1,5 +1,4 @@
 -- `add_derivatives` meets its contract. Assumes nothing.
-use borrow.Author.Rules.{rules}
 use borrow.Author.Tests.{not-true, not-false}
 use Rattle.likelihood.specs.Newton.{add_derivatives}
 use Rattle.likelihood.proofs.add_derivatives.Goals as goal

@@ -1,5 +1,4 @@
 -- `add_terms` meets its contract. Assumes nothing.
-use borrow.Author.Rules.{rules}
 use borrow.Author.Tests.{eq-eqb, ne_eqb, not-true, not-false}
 use Rattle.likelihood.specs.Objective.{add_terms}
 use Rattle.likelihood.proofs.add_terms.Goals as goal

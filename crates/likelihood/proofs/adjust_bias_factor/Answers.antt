@@ -1,5 +1,4 @@
 -- `adjust_bias_factor` meets its contract. Assumes nothing.
-use borrow.Author.Rules.{rules}
 use Rattle.likelihood.specs.Bias.{adjusted}
 use Rattle.likelihood.proofs.adjust_bias_factor.Goals as goal
 

@@ -1,5 +1,4 @@
 -- `congested_loss` meets its contract. Assumes nothing.
-use borrow.Author.Rules.{rules}
 use Rattle.likelihood.specs.Probability.{congested}
 use Rattle.likelihood.proofs.congested_loss.Goals as goal
 

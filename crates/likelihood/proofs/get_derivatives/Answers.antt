@@ -1,11 +1,9 @@
 -- `get_derivatives` meets its contract. The loop's invariant: what is left of the rows, added to the sums so far, gives the whole sums.
 -- Assumes nothing.
-use Prim.Native.Nat.{◌<◌, ◌≤◌, ◌-◌}
-use mathlib.Core.Path.{◌≡◌, refl}
-use mathlib.Core.List.{foldl}
+use Prim.Native.Nat.{◌<◌}
+use mathlib.Core.Path.{refl}
 use native.Mathlib.Omega.{arith}
-use borrow.Author.Rules.{rules}
-use lib.ListN.{drop, length}
+use lib.ListN.{length}
 use Rattle.float.proofs.Fold.{fold_again, fold_end}
 use Rattle.likelihood.specs.Newton.{add_derivatives, derivatives}
 use Rattle.likelihood.proofs.get_derivatives.Goals as goal

@@ -1,5 +1,4 @@
 -- `get_feasible_inherent_loss` meets its contract. Assumes nothing.
-use borrow.Author.Rules.{rules}
 use Rattle.likelihood.specs.Feasible.{feasible}
 use Rattle.likelihood.proofs.get_feasible_inherent_loss.Goals as goal
 

@@ -1,6 +1,5 @@
 -- `get_high_bandwidth_bias` meets its contract. Assumes nothing.
-use borrow.Author.Rules.{rules}
-use borrow.Author.Tests.{eq-eqb, ne_eqb, not-true, not-false}
+use borrow.Author.Tests.{eq-eqb, ne_eqb}
 use Rattle.likelihood.specs.Bias.{bias}
 use Rattle.likelihood.proofs.get_high_bandwidth_bias.Goals as goal
 

@@ -1,5 +1,4 @@
 -- `get_inherent_loss_upper_bound` meets its contract. Assumes nothing.
-use borrow.Author.Rules.{rules}
 use Rattle.likelihood.specs.Feasible.{upper_bound}
 use Rattle.likelihood.proofs.get_inherent_loss_upper_bound.Goals as goal
 

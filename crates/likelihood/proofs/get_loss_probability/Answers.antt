@@ -1,5 +1,4 @@
 -- `get_loss_probability` meets its contract. Assumes nothing.
-use borrow.Author.Rules.{rules}
 use Rattle.likelihood.specs.Probability.{probability}
 use Rattle.likelihood.proofs.get_loss_probability.Goals as goal
 

@@ -1,11 +1,8 @@
 -- `get_objective` meets its contract. The loop's invariant: what is left of the rows, added to the objective so far, gives the whole.
 -- Assumes nothing.
-use Prim.Native.Nat.{◌<◌, ◌≤◌, ◌-◌}
-use mathlib.Core.Path.{◌≡◌}
-use mathlib.Core.List.{foldl}
+use Prim.Native.Nat.{◌<◌}
 use native.Mathlib.Omega.{arith}
-use borrow.Author.Rules.{rules}
-use lib.ListN.{drop, length}
+use lib.ListN.{length}
 use Rattle.float.proofs.Fold.{fold_again, fold_end}
 use Rattle.likelihood.specs.Objective.{add_terms, objective}
 use Rattle.likelihood.proofs.get_objective.Goals as goal

@@ -1,5 +1,4 @@
 -- `newtons_method_update` meets its contract. Assumes nothing.
-use borrow.Author.Rules.{rules}
 use Rattle.likelihood.specs.Newton.{newton}
 use Rattle.likelihood.proofs.newtons_method_update.Goals as goal
 

@@ -1,5 +1,4 @@
 -- `safe_second_derivative` meets its contract. Assumes nothing.
-use borrow.Author.Rules.{rules}
 use Rattle.likelihood.specs.Newton.{safe}
 use Rattle.likelihood.proofs.safe_second_derivative.Goals as goal
 

@@ -1,5 +1,4 @@
 -- `ln` meets its contract: each return is the branch of `logarithm` that the tests before it choose. Assumes nothing.
-use borrow.Author.Rules.{rules}
 use Rattle.logarithm.specs.Ln.{logarithm}
 use Rattle.logarithm.proofs.ln.Goals as goal
 

@@ -1,7 +1,6 @@
 -- `ln_of_bits` meets its contract: step by step it is the definition, but for k, where the subtraction of floats is exact. Assumes nothing.
 use Prim.Native.Nat.{◌+◌, ◌/◌, ◌^◌}
 use native.Mathlib.Omega.{arith}
-use borrow.Author.Rules.{rules}
 use Rattle.logarithm.specs.Ln.{logarithm_of_bits}
 use Rattle.logarithm.proofs.Exponent.{exponent_exact, held}
 use Rattle.logarithm.proofs.ln_of_bits.Goals as goal

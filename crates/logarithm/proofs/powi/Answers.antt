@@ -4,7 +4,7 @@ use native.Mathlib.Nat.{le_refl}
 use native.Mathlib.Omega.{arith}
 use borrow.Author.Tests.{eq-eqb, ne_eqb}
 use Rattle.logarithm.specs.Power.{power}
-use Rattle.logarithm.proofs.Steps.{Leads, turn, done}
+use Rattle.logarithm.proofs.Steps.{turn, done}
 use Rattle.logarithm.proofs.powi.Goals as goal
 use Rattle.logarithm.proofs.powi.Goals.{then-n-eq1, else-n-eq1}
 

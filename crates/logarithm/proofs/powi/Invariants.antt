@@ -1,11 +1,6 @@
 -- `powi` meets its contract. The loop's invariant: what is left of the steps leads to the power. The measure is n. Assumes nothing.
-use mathlib.Core.Path.{refl}
-use mathlib.Core.Logic.{⊎_elim}
-use native.Mathlib.Nat.{le_refl}
-use native.Mathlib.Omega.{arith}
-use borrow.Author.Tests.{eq-eqb, ne_eqb}
 use Rattle.logarithm.specs.Power.{power}
-use Rattle.logarithm.proofs.Steps.{Leads, turn, done}
+use Rattle.logarithm.proofs.Steps.{Leads}
 use Rattle.logarithm.proofs.powi.Given as goal
 
 abbrev pub invariant-loop-n : goal.invariant-loop-n

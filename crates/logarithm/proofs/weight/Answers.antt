@@ -1,6 +1,5 @@
 -- `weight` meets its contract: antt computes that the table is the fifteen powers. Assumes nothing.
 use mathlib.Core.Path.{refl}
-use borrow.Author.Rules.{rules}
 use borrow.Author.Tests.{lt-ltb, le-ltb}
 use lib.Ieee.{nan, mul, of_bits}
 use Rattle.logarithm.specs.Power.{ninetenths, power, weight}

@@ -1,5 +1,4 @@
 -- `capacity_refusal` meets its contract. Assumes nothing.
-use borrow.Author.Rules.{rules}
 use Rattle.loss_controller.specs.Setters.{capacity_refusal}
 use Rattle.loss_controller.proofs.capacity_refusal.Goals as goal
 

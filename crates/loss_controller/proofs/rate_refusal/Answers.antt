@@ -1,6 +1,4 @@
 -- `rate_refusal` meets its contract. Assumes nothing.
-use borrow.Author.Tests.{not-true, not-false}
-use borrow.Author.Rules.{rules}
 use Rattle.loss_controller.specs.Setters.{rate_refusal}
 use Rattle.loss_controller.proofs.rate_refusal.Goals as goal
 

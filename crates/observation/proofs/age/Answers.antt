@@ -1,5 +1,5 @@
 -- `observation::age` meets its contract. Assumes nothing.
-use Rattle.std.proofs.Common.{rules, le-ltb, lt-ltb}
+use Rattle.std.proofs.Common.{le-ltb, lt-ltb}
 use Rattle.observation.specs.Ratio.{age}
 use Rattle.observation.proofs.age.Goals as goal
 

@@ -1,5 +1,4 @@
 -- `observation::as_bytes_f64` meets its contract. Assumes nothing.
-use Rattle.std.proofs.Common.{rules}
 use Rattle.bandwidth.specs.Size.{float}
 use Rattle.observation.proofs.Sizes.{no_size, a_size}
 use Rattle.observation.proofs.as_bytes_f64.Goals as goal

@@ -1,5 +1,4 @@
 -- `observation::as_kb` meets its contract. Assumes nothing.
-use Rattle.std.proofs.Common.{rules}
 use Rattle.bandwidth.specs.Size.{kilobytes}
 use Rattle.observation.proofs.Sizes.{no_size, a_size}
 use Rattle.observation.proofs.as_kb.Goals as goal

@@ -1,5 +1,4 @@
 -- `observation::cleared` meets its contract. Assumes nothing.
-use Rattle.std.proofs.Common.{rules}
 use Rattle.observation.specs.Window.{cleared}
 use Rattle.observation.proofs.cleared.Goals as goal
 

@@ -1,5 +1,4 @@
 -- `observation::completes` meets its contract. Assumes nothing.
-use Rattle.std.proofs.Common.{rules}
 use Rattle.observation.specs.Window.{completes}
 use Rattle.observation.proofs.completes.Goals as goal
 

@@ -1,5 +1,4 @@
 -- `observation::instant_limit` meets its contract. Assumes nothing.
-use Rattle.std.proofs.Common.{rules}
 use Rattle.rounding.specs.Ratio.{loss_ceiling}
 use Rattle.observation.specs.Ratio.{instant_limit}
 use Rattle.observation.proofs.instant_limit.Goals as goal

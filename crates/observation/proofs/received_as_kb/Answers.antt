@@ -1,5 +1,4 @@
 -- `observation::received_as_kb` meets its contract. Assumes nothing.
-use Rattle.std.proofs.Common.{rules}
 use Rattle.observation.proofs.Sizes.{difference}
 use Rattle.observation.proofs.received_as_kb.Goals as goal
 

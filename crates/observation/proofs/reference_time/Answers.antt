@@ -1,5 +1,4 @@
 -- `observation::reference_time` meets its contract. Assumes nothing.
-use Rattle.std.proofs.Common.{rules}
 use Rattle.observation.specs.Window.{reference}
 use Rattle.observation.proofs.reference_time.Goals as goal
 

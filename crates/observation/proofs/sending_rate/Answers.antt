@@ -1,5 +1,4 @@
 -- `observation::sending_rate` meets its contract. Assumes nothing.
-use Rattle.std.proofs.Common.{rules}
 use Rattle.time.specs.Delta.{rate}
 use Rattle.observation.proofs.Sizes.{no_size, a_size}
 use Rattle.observation.proofs.sending_rate.Goals as goal

@@ -1,5 +1,4 @@
 -- `observation::valid_or_max` meets its contract. Assumes nothing.
-use Rattle.std.proofs.Common.{rules}
 use Rattle.observation.specs.Ratio.{valid_or_max}
 use Rattle.observation.proofs.valid_or_max.Goals as goal
 

@@ -1,9 +1,8 @@
 -- `packets::summary` meets its contract. The loop's invariant: the packets that are left, added to the totals so far, give the whole, and those totals are
 -- of at most i packets. Assumes nothing.
-use Rattle.std.proofs.Common.{◌≡◌, ◌-◌, ◌≤◌, length, drop, sym, refl, ◌∙◌, arith, rules, eq-eqb, ne_eqb}
-use mathlib.Core.List.{foldl}
-use Rattle.packets.specs.Summary.{packets, refused, add_packet, summary_of}
-use Rattle.packets.proofs.Totals.{TotalsOf, Even, not_refused, columns_again, columns_end, none_within, within_larger, within_more, of_report}
+use Rattle.std.proofs.Common.{sym, refl, ◌∙◌, arith, rules, eq-eqb, ne_eqb}
+use Rattle.packets.specs.Summary.{summary_of}
+use Rattle.packets.proofs.Totals.{not_refused, columns_again, columns_end, none_within, within_larger, within_more, of_report}
 use Rattle.packets.proofs.summary.Goals as goal
 
 pub returns-then-refusal-ne0 : goal.returns-then-refusal-ne0

@@ -1,5 +1,4 @@
 -- `option_bits` is its definition. Assumes nothing.
-use borrow.Author.Rules.{rules}
 use Rattle.stored_fields.proofs.option_bits.Goals as goal
 
 pub returns-in-Some : goal.returns-in-Some

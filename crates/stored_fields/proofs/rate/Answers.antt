@@ -1,5 +1,4 @@
 -- `rate` is its definition. Assumes nothing.
-use borrow.Author.Rules.{rules}
 use Rattle.stored_fields.proofs.rate.Goals as goal
 
 pub returns : goal.returns

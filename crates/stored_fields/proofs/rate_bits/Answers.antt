@@ -1,5 +1,4 @@
 -- `rate_bits` is its definition. Assumes nothing.
-use borrow.Author.Rules.{rules}
 use Rattle.stored_fields.proofs.rate_bits.Goals as goal
 
 pub returns : goal.returns

@@ -1,7 +1,6 @@
 -- `time::checked_add` meets its contract. Assumes nothing.
 use Rattle.std.specs.Prelude.{◌+◌, ◌^◌}
 use native.Mathlib.Omega.{arith}
-use borrow.Author.Rules.{rules}
 use borrow.Author.Tests.{lt-ltb, le-ltb}
 use Rattle.duration.specs.Nanos.{fitted}
 use Rattle.time.proofs.checked_add.Goals as goal

@@ -1,6 +1,5 @@
 -- `time::checked_div` meets its contract. Assumes nothing.
 use borrow.Author.Tests.{eq-eqb, ne_eqb}
-use borrow.Author.Rules.{rules}
 use Rattle.duration.specs.Nanos.{over}
 use Rattle.time.proofs.checked_div.Goals as goal
 

@@ -1,5 +1,4 @@
 -- `time::checked_mul` meets its contract: the product is compared with the range by a division. Assumes nothing.
-use borrow.Author.Rules.{rules}
 use borrow.Author.Tests.{lt-ltb, le-ltb}
 use Rattle.bandwidth.proofs.Units.{within, beyond}
 use Rattle.duration.specs.Nanos.{fitted}

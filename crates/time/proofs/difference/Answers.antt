@@ -1,6 +1,5 @@
 -- `time::difference` meets its contract. Assumes nothing.
 use borrow.Author.Tests.{lt-ltb, le-ltb}
-use borrow.Author.Rules.{rules}
 use Rattle.time.specs.Delta.{difference}
 use Rattle.time.proofs.difference.Goals as goal
 

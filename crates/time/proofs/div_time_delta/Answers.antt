@@ -1,5 +1,4 @@
 -- `time::div_time_delta` meets its contract. Assumes nothing.
-use borrow.Author.Rules.{rules}
 use Rattle.time.specs.Delta.{rate}
 use Rattle.time.proofs.div_time_delta.Goals as goal
 

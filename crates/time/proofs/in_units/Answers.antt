@@ -1,5 +1,4 @@
 -- `time::in_units` meets its contract. Assumes nothing.
-use borrow.Author.Rules.{rules}
 use Rattle.integer.proofs.Signed.{read_is}
 use Rattle.time.specs.Delta.{units}
 use Rattle.time.proofs.in_units.Goals as goal

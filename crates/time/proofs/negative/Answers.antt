@@ -1,6 +1,5 @@
 -- `time::negative` meets its contract. Assumes nothing.
 use borrow.Author.Tests.{eq-eqb, ne_eqb}
-use borrow.Author.Rules.{rules}
 use Rattle.time.specs.Delta.{negative}
 use Rattle.time.proofs.negative.Goals as goal
 

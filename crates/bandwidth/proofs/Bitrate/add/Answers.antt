@@ -1,5 +1,4 @@
 -- `Bitrate::add` meets its contract. Assumes nothing.
-use Rattle.std.proofs.Common.{rules}
 use Rattle.bandwidth.specs.Rate.{plus}
 use Rattle.bandwidth.proofs.Bitrate.add.Goals as goal
 

@@ -1,5 +1,4 @@
 -- `Bitrate::as_u64` meets its contract. Assumes nothing.
-use Rattle.std.proofs.Common.{rules}
 use Rattle.bandwidth.specs.Rate.{upwards}
 use Rattle.bandwidth.proofs.Bitrate.as_u64.Goals as goal
 

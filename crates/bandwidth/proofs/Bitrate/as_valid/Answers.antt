@@ -1,5 +1,4 @@
 -- `Bitrate::as_valid` meets its contract. Assumes nothing.
-use Rattle.std.proofs.Common.{rules}
 use Rattle.bandwidth.specs.Rate.{valid}
 use Rattle.bandwidth.proofs.Bitrate.as_valid.Goals as goal
 

@@ -1,5 +1,4 @@
 -- `Bitrate::bps` meets its contract. Assumes nothing.
-use Rattle.std.proofs.Common.{rules}
 use Rattle.bandwidth.proofs.Bitrate.bps.Goals as goal
 
 pub returns : goal.returns

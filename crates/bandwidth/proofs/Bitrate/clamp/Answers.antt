@@ -1,5 +1,4 @@
 -- `Bitrate::clamp` meets its contract. Assumes nothing.
-use Rattle.std.proofs.Common.{rules}
 use Rattle.bandwidth.specs.Rate.{clamped}
 use Rattle.bandwidth.proofs.Bitrate.clamp.Goals as goal
 

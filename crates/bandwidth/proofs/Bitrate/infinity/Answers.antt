@@ -1,5 +1,4 @@
 -- `Bitrate::infinity` meets its contract. Assumes nothing.
-use Rattle.std.proofs.Common.{rules}
 use Rattle.bandwidth.proofs.Bitrate.infinity.Goals as goal
 
 pub returns : goal.returns

@@ -1,5 +1,4 @@
 -- `Bitrate::max` meets its contract. Assumes nothing.
-use Rattle.std.proofs.Common.{rules}
 use Rattle.bandwidth.specs.Rate.{larger}
 use Rattle.bandwidth.proofs.Bitrate.max.Goals as goal
 

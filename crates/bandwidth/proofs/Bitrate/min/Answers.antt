@@ -1,5 +1,4 @@
 -- `Bitrate::min` meets its contract. Assumes nothing.
-use Rattle.std.proofs.Common.{rules}
 use Rattle.bandwidth.specs.Rate.{smaller}
 use Rattle.bandwidth.proofs.Bitrate.min.Goals as goal
 

@@ -1,5 +1,4 @@
 -- `Bitrate::mul_duration` meets its contract. Assumes nothing.
-use Rattle.std.proofs.Common.{rules}
 use Rattle.bandwidth.proofs.Field.{field}
 use Rattle.bandwidth.specs.Rate.{carried}
 use Rattle.bandwidth.proofs.Bitrate.mul_duration.Goals as goal

@@ -1,5 +1,4 @@
 -- `Bitrate::mul_f64` meets its contract. Assumes nothing.
-use Rattle.std.proofs.Common.{rules}
 use Rattle.bandwidth.specs.Rate.{times}
 use Rattle.bandwidth.proofs.Bitrate.mul_f64.Goals as goal
 

@@ -1,5 +1,4 @@
 -- `Bitrate::neg_infinity` meets its contract. Assumes nothing.
-use Rattle.std.proofs.Common.{rules}
 use Rattle.bandwidth.proofs.Bitrate.neg_infinity.Goals as goal
 
 pub returns : goal.returns

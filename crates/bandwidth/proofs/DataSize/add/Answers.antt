@@ -1,5 +1,4 @@
 -- `DataSize::add` meets its contract. Assumes nothing.
-use Rattle.std.proofs.Common.{rules}
 use Rattle.bandwidth.proofs.Field.{field}
 use Rattle.bandwidth.specs.Size.{plus}
 use Rattle.bandwidth.proofs.DataSize.add.Goals as goal

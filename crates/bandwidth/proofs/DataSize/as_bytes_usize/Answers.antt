@@ -1,5 +1,4 @@
 -- `DataSize::as_bytes_usize` meets its contract. Assumes nothing.
-use Rattle.std.proofs.Common.{rules}
 use Rattle.bandwidth.proofs.Field.{field}
 use Rattle.bandwidth.specs.Size.{unsigned}
 use Rattle.bandwidth.proofs.DataSize.as_bytes_usize.Goals as goal

@@ -1,5 +1,4 @@
 -- `DataSize::as_kb` meets its contract. Assumes nothing.
-use Rattle.std.proofs.Common.{rules}
 use Rattle.bandwidth.proofs.Exact.{held, not_held}
 use Rattle.bandwidth.specs.Size.{float, kilobytes}
 use Rattle.bandwidth.proofs.DataSize.as_kb.Goals as goal

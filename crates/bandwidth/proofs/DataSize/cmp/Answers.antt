@@ -1,5 +1,4 @@
 -- `DataSize::cmp` meets its contract. Assumes nothing.
-use Rattle.std.proofs.Common.{rules}
 use Rattle.bandwidth.proofs.Field.{field}
 use Rattle.bandwidth.proofs.DataSize.cmp.Goals as goal
 

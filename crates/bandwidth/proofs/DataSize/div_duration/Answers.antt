@@ -1,5 +1,4 @@
 -- `DataSize::div_duration` meets its contract. Assumes nothing.
-use Rattle.std.proofs.Common.{rules}
 use Rattle.bandwidth.specs.Size.{over}
 use Rattle.bandwidth.proofs.DataSize.div_duration.Goals as goal
 

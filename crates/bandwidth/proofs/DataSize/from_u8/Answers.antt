@@ -1,5 +1,5 @@
 -- `DataSize::from_u8` meets its contract. Assumes nothing.
-use Rattle.std.proofs.Common.{arith, w64, rules}
+use Rattle.std.proofs.Common.{arith, w64}
 use mir.ValLaws.{to_z_pos}
 use Rattle.bandwidth.proofs.DataSize.from_u8.Goals as goal
 

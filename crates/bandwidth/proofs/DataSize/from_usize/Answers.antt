@@ -1,5 +1,4 @@
 -- `DataSize::from_usize` meets its contract. Assumes nothing.
-use Rattle.std.proofs.Common.{rules}
 use Rattle.bandwidth.proofs.DataSize.from_usize.Goals as goal
 
 pub returns : goal.returns

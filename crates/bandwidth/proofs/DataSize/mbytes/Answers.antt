@@ -1,5 +1,4 @@
 -- `DataSize::mbytes` meets its contract. Assumes nothing.
-use Rattle.std.proofs.Common.{rules}
 use Rattle.bandwidth.proofs.Field.{field}
 use Rattle.bandwidth.proofs.DataSize.mbytes.Goals as goal
 

@@ -1,5 +1,4 @@
 -- `DataSize::mul_i64` meets its contract. Assumes nothing.
-use Rattle.std.proofs.Common.{rules}
 use Rattle.bandwidth.proofs.Field.{field}
 use Rattle.bandwidth.specs.Size.{times_signed}
 use Rattle.bandwidth.proofs.DataSize.mul_i64.Goals as goal

@@ -1,5 +1,4 @@
 -- `DataSize::mul_u64` meets its contract. Assumes nothing.
-use Rattle.std.proofs.Common.{rules}
 use Rattle.integer.specs.Fitted.{fitted}
 use Rattle.bandwidth.proofs.Exact.{factor, no_factor}
 use Rattle.bandwidth.proofs.Field.{field}

@@ -1,5 +1,4 @@
 -- `DataSize::over_seconds` meets its contract. Assumes nothing.
-use Rattle.std.proofs.Common.{rules}
 use Rattle.bandwidth.proofs.Exact.{held, not_held}
 use Rattle.bandwidth.specs.Size.{float}
 use Rattle.bandwidth.specs.Rate.{over}

@@ -1,5 +1,4 @@
 -- `DataSize::saturating_sub` meets its contract. Assumes nothing.
-use Rattle.std.proofs.Common.{rules}
 use Rattle.bandwidth.proofs.Field.{field}
 use Rattle.bandwidth.specs.Size.{minus, saturating_minus}
 use Rattle.bandwidth.proofs.DataSize.saturating_sub.Goals as goal

@@ -1,5 +1,4 @@
 -- `DataSize::sub` meets its contract. Assumes nothing.
-use Rattle.std.proofs.Common.{rules}
 use Rattle.bandwidth.proofs.Field.{field}
 use Rattle.bandwidth.specs.Size.{minus}
 use Rattle.bandwidth.proofs.DataSize.sub.Goals as goal

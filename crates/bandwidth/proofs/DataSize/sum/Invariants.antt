@@ -1,9 +1,7 @@
 -- `DataSize::sum` meets its contract. The loop's invariant: what is left of the slice, added to the sum so far, gives the whole sum.
 -- Assumes nothing.
-use Rattle.std.proofs.Common.{◌≡◌, ◌-◌, ◌≤◌, length, drop, pos, refl, ap, ◌∙◌, arith, rules}
+use Rattle.std.proofs.Common.{◌≡◌, ◌-◌, ◌≤◌, length, drop}
 use mathlib.Core.List.{foldl}
-use Rattle.float.proofs.Fold.{fold_again, fold_end}
-use Rattle.bandwidth.proofs.Field.{field}
 use Rattle.bandwidth.specs.Size.{add_to, total}
 use Rattle.bandwidth.proofs.DataSize.sum.Given as goal
 

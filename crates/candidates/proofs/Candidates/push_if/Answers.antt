@@ -1,6 +1,5 @@
 -- `Candidates::push_if` meets its contract. Assumes nothing.
 use borrow.Author.Tests.{lt-ltb, le-ltb}
-use borrow.Author.Rules.{rules}
 use Rattle.candidates.specs.Pushed.{pushed}
 use Rattle.candidates.proofs.Candidates.push_if.Goals as goal
 

@@ -1,5 +1,4 @@
 -- `Duration::as_secs_f64` meets its contract. Assumes nothing.
-use Rattle.std.proofs.Common.{rules}
 use Rattle.duration.specs.Seconds.{seconds}
 use Rattle.duration.proofs.Duration.as_secs_f64.Goals as goal
 

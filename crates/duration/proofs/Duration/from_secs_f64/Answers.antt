@@ -1,6 +1,6 @@
 -- `Duration::from_secs_f64` meets its contract: how it parts the seconds is the law `parted`. `a` is the place after `abs`, `h` the one after the
 -- tests. Assumes nothing.
-use Rattle.std.proofs.Common.{sym, ◌∙◌, rules}
+use Rattle.std.proofs.Common.{sym, ◌∙◌}
 use Rattle.duration.proofs.Parted.{parted, negative_refused, too_long_refused}
 use Rattle.duration.proofs.Duration.from_secs_f64.Goals as goal
 

@@ -1,6 +1,5 @@
 -- `Estimator::apply_best_candidate` meets its contract. Assumes nothing.
 use borrow.Author.Tests.{eq-eqb, ne_eqb}
-use borrow.Author.Rules.{rules}
 use Rattle.estimator.specs.Update.{applied}
 use Rattle.estimator.proofs.Estimator.apply_best_candidate.Goals as goal
 

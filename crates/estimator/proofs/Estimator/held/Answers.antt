@@ -1,5 +1,4 @@
 -- `Estimator::held` meets its contract. Assumes nothing.
-use borrow.Author.Rules.{rules}
 use Rattle.estimator.specs.Update.{held}
 use Rattle.estimator.proofs.Estimator.held.Goals as goal
 

@@ -1,5 +1,4 @@
 -- `Estimator::increase_limited` meets its contract. Assumes nothing.
-use borrow.Author.Rules.{rules}
 use Rattle.estimator.specs.Increase.{increase_limited}
 use Rattle.estimator.proofs.Estimator.increase_limited.Goals as goal
 

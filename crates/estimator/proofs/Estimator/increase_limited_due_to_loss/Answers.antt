@@ -1,6 +1,5 @@
 -- `Estimator::increase_limited_due_to_loss` meets its contract. Assumes nothing.
 use borrow.Author.Tests.{eq-eqb, ne_eqb}
-use borrow.Author.Rules.{rules}
 use Rattle.estimator.specs.Increase.{increase_limited_due_to_loss}
 use Rattle.estimator.proofs.Estimator.increase_limited_due_to_loss.Goals as goal
 

@@ -1,5 +1,4 @@
 -- `Estimator::is_estimate_increasing_when_loss_limited` meets its contract. Assumes nothing.
-use borrow.Author.Rules.{rules}
 use Rattle.estimator.specs.Increase.{is_estimate_increasing_when_loss_limited}
 use Rattle.estimator.proofs.Estimator.is_estimate_increasing_when_loss_limited.Goals as goal
 

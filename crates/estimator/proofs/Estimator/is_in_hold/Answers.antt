@@ -1,5 +1,4 @@
 -- `Estimator::is_in_hold` meets its contract. Assumes nothing.
-use borrow.Author.Rules.{rules}
 use Rattle.estimator.specs.Update.{is_in_hold}
 use Rattle.estimator.proofs.Estimator.is_in_hold.Goals as goal
 

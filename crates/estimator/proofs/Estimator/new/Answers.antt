@@ -1,5 +1,4 @@
 -- `Estimator::new` meets its contract. Assumes nothing.
-use borrow.Author.Rules.{rules}
 use Rattle.estimator.proofs.Estimator.new.Goals as goal
 
 pub returns : goal.returns

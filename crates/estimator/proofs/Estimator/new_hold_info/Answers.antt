@@ -1,5 +1,4 @@
 -- `Estimator::new_hold_info` meets its contract. Assumes nothing.
-use borrow.Author.Rules.{rules}
 use Rattle.estimator.specs.Update.{new_hold_info}
 use Rattle.estimator.proofs.Estimator.new_hold_info.Goals as goal
 

@@ -1,5 +1,4 @@
 -- `Estimator::new_state` meets its contract. Assumes nothing.
-use borrow.Author.Rules.{rules}
 use Rattle.estimator.specs.Update.{new_state}
 use Rattle.estimator.proofs.Estimator.new_state.Goals as goal
 

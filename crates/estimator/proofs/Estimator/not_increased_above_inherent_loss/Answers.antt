@@ -1,5 +1,4 @@
 -- `Estimator::not_increased_above_inherent_loss` meets its contract. Assumes nothing.
-use borrow.Author.Rules.{rules}
 use Rattle.estimator.specs.Increase.{not_increased_above_inherent_loss}
 use Rattle.estimator.proofs.Estimator.not_increased_above_inherent_loss.Goals as goal
 

@@ -1,5 +1,4 @@
 -- `Estimator::ramped_up` meets its contract. Assumes nothing.
-use borrow.Author.Rules.{rules}
 use Rattle.estimator.specs.Increase.{ramped_up, within_rampup}
 use Rattle.estimator.proofs.Estimator.ramped_up.Goals as goal
 

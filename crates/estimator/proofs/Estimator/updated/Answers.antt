@@ -1,6 +1,5 @@
 -- `Estimator::updated` meets its contract. Assumes nothing.
 use borrow.Author.Tests.{eq-eqb, ne_eqb}
-use borrow.Author.Rules.{rules}
 use Rattle.estimator.specs.Update.{updated, decided}
 use Rattle.estimator.proofs.Estimator.updated.Goals as goal
 

@@ -1,5 +1,4 @@
 -- `Estimator::with_new_state` meets its contract. Assumes nothing.
-use borrow.Author.Rules.{rules}
 use Rattle.estimator.specs.Update.{with_new_state}
 use Rattle.estimator.proofs.Estimator.with_new_state.Goals as goal
 

@@ -1,5 +1,4 @@
 -- `Estimator::with_reduction_noted` meets its contract. Assumes nothing.
-use borrow.Author.Rules.{rules}
 use Rattle.estimator.specs.Update.{with_reduction_noted}
 use Rattle.estimator.proofs.Estimator.with_reduction_noted.Goals as goal
 

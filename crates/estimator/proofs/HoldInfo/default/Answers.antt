@@ -1,5 +1,4 @@
 -- `HoldInfo::default` meets its contract. Assumes nothing.
-use borrow.Author.Rules.{rules}
 use Rattle.estimator.proofs.HoldInfo.default.Goals as goal
 
 pub returns : goal.returns

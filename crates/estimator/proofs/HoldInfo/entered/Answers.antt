@@ -1,6 +1,5 @@
 -- `HoldInfo::entered` meets its contract. Assumes nothing.
 use borrow.Author.Tests.{eq-eqb, ne_eqb}
-use borrow.Author.Rules.{rules}
 use Rattle.estimator.specs.Hold.{entered}
 use Rattle.estimator.proofs.HoldInfo.entered.Goals as goal
 

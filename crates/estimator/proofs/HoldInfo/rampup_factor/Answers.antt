@@ -1,5 +1,4 @@
 -- `HoldInfo::rampup_factor` meets its contract. Assumes nothing.
-use borrow.Author.Rules.{rules}
 use Rattle.estimator.specs.Increase.{rampup_factor}
 use Rattle.estimator.proofs.HoldInfo.rampup_factor.Goals as goal
 

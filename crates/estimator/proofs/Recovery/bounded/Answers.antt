@@ -1,6 +1,5 @@
 -- `Recovery::bounded` meets its contract. Assumes nothing.
 use borrow.Author.Tests.{eq-eqb, ne_eqb}
-use borrow.Author.Rules.{rules}
 use Rattle.estimator.specs.Recovery.{bounded}
 use Rattle.estimator.proofs.Recovery.bounded.Goals as goal
 

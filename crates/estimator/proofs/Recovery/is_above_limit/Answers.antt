@@ -1,5 +1,4 @@
 -- `Recovery::is_above_limit` meets its contract. Assumes nothing.
-use borrow.Author.Rules.{rules}
 use Rattle.estimator.specs.Recovery.{is_above_limit}
 use Rattle.estimator.proofs.Recovery.is_above_limit.Goals as goal
 

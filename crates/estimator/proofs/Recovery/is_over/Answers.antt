@@ -1,5 +1,4 @@
 -- `Recovery::is_over` meets its contract. Assumes nothing.
-use borrow.Author.Rules.{rules}
 use Rattle.estimator.specs.Recovery.{is_over}
 use Rattle.estimator.proofs.Recovery.is_over.Goals as goal
 

@@ -1,5 +1,4 @@
 -- `Recovery::opened` meets its contract. Assumes nothing.
-use borrow.Author.Rules.{rules}
 use Rattle.estimator.specs.Recovery.{opened}
 use Rattle.estimator.proofs.Recovery.opened.Goals as goal
 

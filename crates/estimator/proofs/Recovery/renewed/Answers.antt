@@ -1,6 +1,5 @@
 -- `Recovery::renewed` meets its contract. Assumes nothing.
 use borrow.Author.Tests.{eq-eqb, ne_eqb}
-use borrow.Author.Rules.{rules}
 use Rattle.estimator.specs.Recovery.{renewed}
 use Rattle.estimator.proofs.Recovery.renewed.Goals as goal
 

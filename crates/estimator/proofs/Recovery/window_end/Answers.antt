@@ -1,5 +1,4 @@
 -- `Recovery::window_end` meets its contract. Assumes nothing.
-use borrow.Author.Rules.{rules}
 use Rattle.estimator.specs.Recovery.{window_end}
 use Rattle.estimator.proofs.Recovery.window_end.Goals as goal
 

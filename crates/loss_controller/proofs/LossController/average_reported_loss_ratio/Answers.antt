@@ -1,5 +1,4 @@
 -- `LossController::average_reported_loss_ratio` meets its contract. Assumes nothing.
-use borrow.Author.Rules.{rules}
 use Rattle.loss_controller.specs.Result.{average_reported_loss_ratio}
 use Rattle.loss_controller.proofs.LossController.average_reported_loss_ratio.Goals as goal
 

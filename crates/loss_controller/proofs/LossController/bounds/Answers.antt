@@ -1,5 +1,4 @@
 -- `LossController::bounds` meets its contract. Assumes nothing.
-use borrow.Author.Rules.{rules}
 use Rattle.loss_controller.specs.Report.{bounds}
 use Rattle.loss_controller.proofs.LossController.bounds.Goals as goal
 

@@ -1,5 +1,4 @@
 -- `LossController::has_valid_estimate` meets its contract. Assumes nothing.
-use borrow.Author.Rules.{rules}
 use Rattle.loss_controller.specs.Report.{has_valid_estimate}
 use Rattle.loss_controller.proofs.LossController.has_valid_estimate.Goals as goal
 

@@ -1,5 +1,4 @@
 -- `LossController::loss_based_result` meets its contract. Assumes nothing.
-use borrow.Author.Rules.{rules}
 use Rattle.loss_controller.specs.Result.{loss_based_result}
 use Rattle.loss_controller.proofs.LossController.loss_based_result.Goals as goal
 

@@ -1,5 +1,4 @@
 -- `LossController::new` meets its contract. Assumes nothing.
-use borrow.Author.Rules.{rules}
 use Rattle.loss_controller.proofs.LossController.new.Goals as goal
 
 pub returns : goal.returns

@@ -1,6 +1,5 @@
 -- `LossController::published` meets its contract. Assumes nothing.
-use borrow.Author.Tests.{eq-eqb, ne_eqb, not-true, not-false}
-use borrow.Author.Rules.{rules}
+use borrow.Author.Tests.{eq-eqb, ne_eqb}
 use Rattle.candidates.specs.Bound.{at_most}
 use Rattle.loss_controller.specs.Result.{published}
 use Rattle.loss_controller.proofs.LossController.published.Goals as goal

@@ -1,6 +1,5 @@
 -- `LossController::reported` meets its contract. Assumes nothing.
 use borrow.Author.Tests.{eq-eqb, ne_eqb, not-true, not-false}
-use borrow.Author.Rules.{rules}
 use Rattle.loss_controller.specs.Report.{reported, observed, with_delay_based_estimate}
 use Rattle.loss_controller.proofs.LossController.reported.Goals as goal
 

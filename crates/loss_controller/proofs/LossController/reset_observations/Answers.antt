@@ -1,5 +1,4 @@
 -- `LossController::reset_observations` meets its contract. Assumes nothing.
-use borrow.Author.Rules.{rules}
 use Rattle.loss_controller.specs.Setters.{reset_observations}
 use Rattle.loss_controller.proofs.LossController.reset_observations.Goals as goal
 

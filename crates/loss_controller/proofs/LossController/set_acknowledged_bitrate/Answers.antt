@@ -1,6 +1,5 @@
 -- `LossController::set_acknowledged_bitrate` meets its contract. Assumes nothing.
 use borrow.Author.Tests.{eq-eqb, ne_eqb}
-use borrow.Author.Rules.{rules}
 use Rattle.loss_controller.specs.Setters.{set_acknowledged_bitrate}
 use Rattle.loss_controller.proofs.LossController.set_acknowledged_bitrate.Goals as goal
 

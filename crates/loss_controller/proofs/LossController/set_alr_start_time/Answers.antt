@@ -1,6 +1,5 @@
 -- `LossController::set_alr_start_time` meets its contract. Assumes nothing.
 use borrow.Author.Tests.{eq-eqb, ne_eqb}
-use borrow.Author.Rules.{rules}
 use Rattle.loss_controller.specs.Setters.{set_alr_start_time}
 use Rattle.loss_controller.proofs.LossController.set_alr_start_time.Goals as goal
 

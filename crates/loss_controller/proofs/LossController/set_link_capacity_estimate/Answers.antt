@@ -1,6 +1,5 @@
 -- `LossController::set_link_capacity_estimate` meets its contract. Assumes nothing.
 use borrow.Author.Tests.{eq-eqb, ne_eqb}
-use borrow.Author.Rules.{rules}
 use Rattle.loss_controller.specs.Setters.{set_link_capacity_estimate}
 use Rattle.loss_controller.proofs.LossController.set_link_capacity_estimate.Goals as goal
 

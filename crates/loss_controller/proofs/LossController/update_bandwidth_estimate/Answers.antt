@@ -1,6 +1,5 @@
 -- `LossController::update_bandwidth_estimate` meets its contract. Assumes nothing.
 use borrow.Author.Tests.{eq-eqb, ne_eqb}
-use borrow.Author.Rules.{rules}
 use Rattle.loss_controller.specs.Report.{update_bandwidth_estimate}
 use Rattle.loss_controller.proofs.LossController.update_bandwidth_estimate.Goals as goal
 

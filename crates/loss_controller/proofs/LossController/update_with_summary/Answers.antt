@@ -1,6 +1,5 @@
 -- `LossController::update_with_summary` meets its contract. Assumes nothing.
-use borrow.Author.Tests.{eq-eqb, ne_eqb, not-true, not-false}
-use borrow.Author.Rules.{rules}
+use borrow.Author.Tests.{eq-eqb, ne_eqb}
 use Rattle.loss_controller.specs.Report.{update_with_summary}
 use Rattle.loss_controller.proofs.LossController.update_with_summary.Goals as goal
 

@@ -1,6 +1,5 @@
 -- `LossController::updated_estimator` meets its contract. Assumes nothing.
 use borrow.Author.Tests.{eq-eqb, ne_eqb}
-use borrow.Author.Rules.{rules}
 use Rattle.loss_controller.specs.Report.{updated_estimator}
 use Rattle.loss_controller.proofs.LossController.updated_estimator.Goals as goal
 

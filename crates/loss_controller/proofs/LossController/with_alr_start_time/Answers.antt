@@ -1,5 +1,4 @@
 -- `LossController::with_alr_start_time` meets its contract. Assumes nothing.
-use borrow.Author.Rules.{rules}
 use Rattle.loss_controller.specs.Setters.{with_alr_start_time}
 use Rattle.loss_controller.proofs.LossController.with_alr_start_time.Goals as goal
 

@@ -1,5 +1,4 @@
 -- `LossController::with_profile` meets its contract. Assumes nothing.
-use borrow.Author.Rules.{rules}
 use Rattle.loss_controller.proofs.LossController.with_profile.Goals as goal
 
 pub returns : goal.returns

@@ -1,5 +1,4 @@
 -- `OptionInstant::refusal` meets its contract. Assumes nothing.
-use borrow.Author.Rules.{rules}
 use Rattle.loss_controller.specs.Setters.{start_refusal}
 use Rattle.loss_controller.proofs.OptionInstant.refusal.Goals as goal
 

@@ -1,7 +1,7 @@
 -- `observation::LossSums::add` meets its contract. Assumes nothing.
-use Rattle.std.proofs.Common.{rules, eq-eqb, ne_eqb}
+use Rattle.std.proofs.Common.{eq-eqb, ne_eqb}
 use borrow.Author.Tests.{not-true, not-false}
-use Rattle.observation.specs.Steps.{counts, summed}
+use Rattle.observation.specs.Steps.{summed}
 use Rattle.observation.proofs.Sums.{counted, not_counted}
 use Rattle.observation.proofs.LossSums.add.Goals as goal
 

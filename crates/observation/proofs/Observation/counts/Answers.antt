@@ -1,6 +1,4 @@
 -- `observation::Observation::counts` meets its contract. Assumes nothing.
-use Rattle.std.proofs.Common.{rules}
-use borrow.Author.Tests.{not-true, not-false}
 use Rattle.bandwidth.proofs.Exact.{held, not_held}
 use Rattle.bandwidth.specs.Size.{float}
 use Rattle.observation.specs.Steps.{counts}

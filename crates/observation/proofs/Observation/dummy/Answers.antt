@@ -1,5 +1,4 @@
 -- `observation::Observation::dummy` meets its contract. Assumes nothing.
-use Rattle.std.proofs.Common.{rules}
 use Rattle.observation.proofs.Observation.dummy.Goals as goal
 
 pub returns : goal.returns

@@ -1,5 +1,4 @@
 -- `observation::Observation::row` meets its contract. Assumes nothing.
-use Rattle.std.proofs.Common.{rules}
 use borrow.Author.Tests.{not-true, not-false}
 use Rattle.observation.specs.Rows.{row_of}
 use Rattle.observation.specs.Steps.{row, row_of_packets}
@@ -42,11 +41,10 @@ returns-then-lost_refusal-ne0 c =
     )
 
 pub received_as_kb-requires : goal.received_as_kb-requires
-received_as_kb-requires c =
-    (
-      held_small _ (kb_held _ (rw c.as_kb-total.ensures at c.if-total_refusal-ne0.false)),
-      held_small _ (kb_held _ (rw c.as_kb-lost.ensures at c.if-lost_refusal-ne0.false)),
-    )
+received_as_kb-requires c = (
+  held_small _ (kb_held _ (rw c.as_kb-total.ensures at c.if-total_refusal-ne0.false)),
+  held_small _ (kb_held _ (rw c.as_kb-lost.ensures at c.if-lost_refusal-ne0.false)),
+)
 
 pub returns : goal.returns
 unfolding row row_of

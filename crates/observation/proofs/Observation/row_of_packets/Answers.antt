@@ -1,5 +1,4 @@
 -- `observation::Observation::row_of_packets` meets its contract. Assumes nothing.
-use Rattle.std.proofs.Common.{rules}
 use Rattle.observation.specs.Steps.{row_of_packets}
 use Rattle.observation.proofs.Observation.row_of_packets.Goals as goal
 

@@ -1,5 +1,4 @@
 -- `observation::ObservationAnswer::refused` meets its contract. Assumes nothing.
-use Rattle.std.proofs.Common.{rules}
 use Rattle.observation.proofs.ObservationAnswer.refused.Goals as goal
 
 pub returns : goal.returns

@@ -1,5 +1,5 @@
 -- `observation::Observations::average_reported_loss_ratio` meets its contract. Assumes nothing.
-use Rattle.std.proofs.Common.{sym, rules}
+use Rattle.std.proofs.Common.{sym}
 use Rattle.observation.proofs.Sums.{ratio_refused, ratio_is}
 use Rattle.observation.proofs.Observations.average_reported_loss_ratio.Goals as goal
 

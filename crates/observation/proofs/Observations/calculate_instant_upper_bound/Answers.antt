@@ -1,5 +1,5 @@
 -- `observation::Observations::calculate_instant_upper_bound` meets its contract. Assumes nothing.
-use Rattle.std.proofs.Common.{rules, eq-eqb, ne_eqb}
+use Rattle.std.proofs.Common.{eq-eqb, ne_eqb}
 use Rattle.observation.specs.Ratio.{instant_upper_bound}
 use Rattle.observation.proofs.Observations.calculate_instant_upper_bound.Goals as goal
 

@@ -1,5 +1,5 @@
 -- `observation::Observations::complete` meets its contract. Assumes nothing.
-use Rattle.std.proofs.Common.{rules, eq-eqb, ne_eqb}
+use Rattle.std.proofs.Common.{eq-eqb, ne_eqb}
 use Rattle.observation.specs.Window.{completed, renewed}
 use Rattle.observation.proofs.Observations.complete.Goals as goal
 

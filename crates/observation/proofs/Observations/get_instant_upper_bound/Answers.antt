@@ -1,5 +1,4 @@
 -- `observation::Observations::get_instant_upper_bound` meets its contract. Assumes nothing.
-use Rattle.std.proofs.Common.{rules}
 use Rattle.observation.specs.Ratio.{cached}
 use Rattle.observation.proofs.Observations.get_instant_upper_bound.Goals as goal
 

@@ -1,5 +1,4 @@
 -- `observation::Observations::is_full` meets its contract. Assumes nothing.
-use Rattle.std.proofs.Common.{rules}
 use Rattle.observation.specs.Window.{full}
 use Rattle.observation.proofs.Observations.is_full.Goals as goal
 

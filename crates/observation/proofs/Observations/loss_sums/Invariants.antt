@@ -1,9 +1,7 @@
 -- `observation::Observations::loss_sums` meets its contract. The loop's invariant: the slots that are left, added to the sums so far, give the whole.
 -- Assumes nothing.
-use Rattle.std.proofs.Common.{◌≡◌, ◌-◌, ◌<◌, ◌≤◌, length, drop, refl, arith, rules}
+use Rattle.std.proofs.Common.{◌≡◌, ◌-◌, ◌≤◌, length, drop}
 use mathlib.Core.List.{foldl}
-use lib.ListN.{length-map}
-use Rattle.float.proofs.Fold.{fold_again, fold_end}
 use Rattle.observation.specs.Steps.{summed}
 use Rattle.observation.proofs.Observations.loss_sums.Given as goal
 

@@ -1,5 +1,5 @@
 -- `observation::Observations::maybe_add_observation` meets its contract. Assumes nothing.
-use Rattle.std.proofs.Common.{rules, eq-eqb, ne_eqb}
+use Rattle.std.proofs.Common.{eq-eqb, ne_eqb}
 use Rattle.observation.specs.Window.{added}
 use Rattle.observation.proofs.Limits.{not_full}
 use Rattle.observation.proofs.Observations.maybe_add_observation.Goals as goal

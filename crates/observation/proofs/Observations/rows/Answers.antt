@@ -1,9 +1,7 @@
 -- `observation::Observations::rows` meets its contract. The loop's invariant: the first i rows are made, and the slots that are left are readable
 -- where all are.
 -- Assumes nothing.
-use Rattle.std.proofs.Common.{◌≡◌, ◌-◌, ◌<◌, ◌≤◌, map, length, take, drop, sym, refl, arith, length-set, rules}
-use lib.ListN.{length-map}
-use Rattle.observation.specs.Ratio.{readable}
+use Rattle.std.proofs.Common.{◌<◌, ◌≤◌, length, sym, arith, length-set, rules}
 use Rattle.observation.specs.Rows.{row_of, rows}
 use Rattle.observation.proofs.Rows.{slot_row, read_again, not_read, all_read, fill_again, fill_end}
 use Rattle.observation.proofs.Observations.rows.Goals as goal

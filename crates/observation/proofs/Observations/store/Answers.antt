@@ -1,5 +1,4 @@
 -- `observation::Observations::store` meets its contract. Assumes nothing.
-use Rattle.std.proofs.Common.{rules}
 use Rattle.observation.specs.Window.{stored}
 use Rattle.observation.proofs.Observations.store.Goals as goal
 

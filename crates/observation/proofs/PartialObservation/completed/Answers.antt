@@ -1,5 +1,5 @@
 -- `observation::PartialObservation::completed` meets its contract. Assumes nothing.
-use Rattle.std.proofs.Common.{rules, eq-eqb, ne_eqb, le-leb}
+use Rattle.std.proofs.Common.{eq-eqb, ne_eqb, le-leb}
 use borrow.Author.Tests.{lt-leb}
 use Rattle.observation.specs.Window.{observed}
 use Rattle.observation.proofs.PartialObservation.completed.Goals as goal

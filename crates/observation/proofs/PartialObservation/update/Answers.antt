@@ -1,5 +1,5 @@
 -- `observation::PartialObservation::update` meets its contract. Assumes nothing.
-use Rattle.std.proofs.Common.{◌+◌, ◌-◌, ◌^◌, arith, rules}
+use Rattle.std.proofs.Common.{◌+◌, ◌-◌, ◌^◌, arith}
 use Rattle.observation.specs.Partial.{updated}
 use Rattle.observation.proofs.Limits.{not_passed}
 use Rattle.observation.proofs.PartialObservation.update.Goals as goal

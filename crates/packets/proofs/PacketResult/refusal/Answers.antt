@@ -1,5 +1,5 @@
 -- `packets::PacketResult::refusal` meets its contract. Assumes nothing.
-use Rattle.std.proofs.Common.{rules, le-leb}
+use Rattle.std.proofs.Common.{le-leb}
 use borrow.Author.Tests.{lt-leb}
 use Rattle.packets.specs.Summary.{packet_refusal}
 use Rattle.packets.proofs.PacketResult.refusal.Goals as goal

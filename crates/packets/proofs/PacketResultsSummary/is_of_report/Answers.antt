@@ -1,5 +1,5 @@
 -- `packets::PacketResultsSummary::is_of_report` meets its contract. Assumes nothing.
-use Rattle.std.proofs.Common.{rules, le-ltb, lt-ltb, le-leb}
+use Rattle.std.proofs.Common.{le-ltb, lt-ltb, le-leb}
 use borrow.Author.Tests.{lt-leb}
 use Rattle.packets.specs.Summary.{is_of_report}
 use Rattle.packets.proofs.PacketResultsSummary.is_of_report.Goals as goal

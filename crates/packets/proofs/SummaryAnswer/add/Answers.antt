@@ -1,6 +1,5 @@
 -- `packets::SummaryAnswer::add` meets its contract. Assumes nothing.
-use Rattle.std.proofs.Common.{sym, ◌∙◌, arith, rules, le-ltb, lt-ltb}
-use borrow.Author.Tests.{not-true, not-false}
+use Rattle.std.proofs.Common.{sym, ◌∙◌, arith, le-ltb, lt-ltb}
 use Rattle.packets.specs.Summary.{added}
 use Rattle.packets.proofs.SummaryAnswer.add.Goals as goal
 

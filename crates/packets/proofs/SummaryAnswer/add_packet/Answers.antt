@@ -1,5 +1,5 @@
 -- `packets::SummaryAnswer::add_packet` meets its contract. Assumes nothing.
-use Rattle.std.proofs.Common.{sym, ◌∙◌, arith, rules, eq-eqb, ne_eqb}
+use Rattle.std.proofs.Common.{sym, ◌∙◌, arith, eq-eqb, ne_eqb}
 use Rattle.packets.specs.Summary.{add_packet}
 use Rattle.packets.proofs.Totals.{lost_part, bytes_within, totals_of}
 use Rattle.packets.proofs.SummaryAnswer.add_packet.Goals as goal

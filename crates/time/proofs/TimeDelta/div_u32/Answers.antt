@@ -1,6 +1,5 @@
 -- `TimeDelta::div_u32` meets its contract. In the order of the code: what each place asks, which antt finds, then each arm's answer,
 -- by the variants found on the way and what the calls ensure. Assumes nothing.
-use borrow.Author.Rules.{rules}
 use Rattle.time.specs.Delta.{over}
 use Rattle.time.proofs.TimeDelta.div_u32.Goals as goal
 

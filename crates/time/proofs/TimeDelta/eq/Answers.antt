@@ -1,5 +1,4 @@
 -- `TimeDelta::eq` meets its contract. Assumes nothing.
-use borrow.Author.Rules.{rules}
 use Rattle.time.proofs.TimeDelta.eq.Goals as goal
 
 pub returns : goal.returns

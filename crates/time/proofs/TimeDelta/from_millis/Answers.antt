@@ -1,5 +1,4 @@
 -- `TimeDelta::from_millis` meets its contract. Assumes nothing.
-use borrow.Author.Rules.{rules}
 use Rattle.integer.proofs.Signed.{read_is}
 use Rattle.time.proofs.TimeDelta.from_millis.Goals as goal
 

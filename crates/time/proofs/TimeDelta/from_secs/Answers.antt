@@ -1,5 +1,4 @@
 -- `TimeDelta::from_secs` meets its contract. Assumes nothing.
-use borrow.Author.Rules.{rules}
 use Rattle.integer.proofs.Signed.{read_is}
 use Rattle.time.proofs.TimeDelta.from_secs.Goals as goal
 

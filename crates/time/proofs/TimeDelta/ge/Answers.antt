@@ -1,5 +1,4 @@
 -- `TimeDelta::ge` meets its contract. Assumes nothing.
-use borrow.Author.Rules.{rules}
 use Rattle.time.proofs.TimeDelta.ge.Goals as goal
 
 pub returns : goal.returns

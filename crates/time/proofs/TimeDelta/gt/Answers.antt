@@ -1,5 +1,4 @@
 -- `TimeDelta::gt` meets its contract. Assumes nothing.
-use borrow.Author.Rules.{rules}
 use Rattle.time.proofs.TimeDelta.gt.Goals as goal
 
 pub returns : goal.returns

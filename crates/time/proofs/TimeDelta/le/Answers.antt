@@ -1,5 +1,4 @@
 -- `TimeDelta::le` meets its contract. Assumes nothing.
-use borrow.Author.Rules.{rules}
 use Rattle.time.proofs.TimeDelta.le.Goals as goal
 
 pub returns : goal.returns

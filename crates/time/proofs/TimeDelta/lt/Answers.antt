@@ -1,5 +1,4 @@
 -- `TimeDelta::lt` meets its contract. Assumes nothing.
-use borrow.Author.Rules.{rules}
 use Rattle.time.proofs.TimeDelta.lt.Goals as goal
 
 pub returns : goal.returns

@@ -1,5 +1,4 @@
 -- `TimeDelta::max` meets its contract. Assumes nothing.
-use borrow.Author.Rules.{rules}
 use Rattle.time.specs.Delta.{larger}
 use Rattle.time.proofs.TimeDelta.max.Goals as goal
 

@@ -1,5 +1,4 @@
 -- `TimeDelta::sub` meets its contract. Assumes nothing.
-use borrow.Author.Rules.{rules}
 use Rattle.time.specs.Delta.{minus}
 use Rattle.time.proofs.TimeDelta.sub.Goals as goal
 

@@ -1,6 +1,5 @@
 -- `Timestamp::add_delta` meets its contract. In the order of the code: what each place asks, which antt finds, then each arm's answer,
 -- by the variants found on the way and what the calls ensure. Assumes nothing.
-use borrow.Author.Rules.{rules}
 use Rattle.time.specs.Time.{plus}
 use Rattle.time.proofs.Timestamp.add_delta.Goals as goal
 

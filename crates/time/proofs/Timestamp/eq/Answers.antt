@@ -1,5 +1,4 @@
 -- `Timestamp::eq` meets its contract. Assumes nothing.
-use borrow.Author.Rules.{rules}
 use Rattle.time.proofs.Timestamp.eq.Goals as goal
 
 pub returns : goal.returns

@@ -1,5 +1,4 @@
 -- `Timestamp::ge` meets its contract. Assumes nothing.
-use borrow.Author.Rules.{rules}
 use Rattle.time.proofs.Timestamp.ge.Goals as goal
 
 pub returns : goal.returns

@@ -1,5 +1,4 @@
 -- `Timestamp::gt` meets its contract. Assumes nothing.
-use borrow.Author.Rules.{rules}
 use Rattle.time.proofs.Timestamp.gt.Goals as goal
 
 pub returns : goal.returns

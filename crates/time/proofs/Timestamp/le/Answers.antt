@@ -1,5 +1,4 @@
 -- `Timestamp::le` meets its contract. Assumes nothing.
-use borrow.Author.Rules.{rules}
 use Rattle.time.proofs.Timestamp.le.Goals as goal
 
 pub returns : goal.returns

@@ -1,5 +1,4 @@
 -- `Timestamp::lt` meets its contract. Assumes nothing.
-use borrow.Author.Rules.{rules}
 use Rattle.time.proofs.Timestamp.lt.Goals as goal
 
 pub returns : goal.returns

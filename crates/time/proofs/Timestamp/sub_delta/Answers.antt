@@ -1,5 +1,4 @@
 -- `Timestamp::sub_delta` meets its contract. Assumes nothing.
-use borrow.Author.Rules.{rules}
 use Rattle.time.specs.Time.{minus}
 use Rattle.time.proofs.Timestamp.sub_delta.Goals as goal
 
