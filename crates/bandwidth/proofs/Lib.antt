@@ -3,3 +3,4 @@ pub mod Units
 pub mod Exact
 pub mod NotNegativeRate
 pub mod Limited
+mod Examples

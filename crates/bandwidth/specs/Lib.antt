@@ -1,4 +1,3 @@
 pub mod Rate
 pub mod Size
 pub mod Starred
-mod Examples

@@ -6,3 +6,4 @@ pub mod RoundTrip
 pub mod Calls
 pub mod Written
 pub mod Clear
+mod Examples

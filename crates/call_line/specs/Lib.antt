@@ -2,4 +2,3 @@ pub mod Column
 pub mod Digits
 pub mod Line
 pub mod Write
-mod Examples

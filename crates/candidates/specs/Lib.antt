@@ -2,4 +2,3 @@ pub mod Bound
 pub mod Candidate
 pub mod Choice
 pub mod Pushed
-mod Examples

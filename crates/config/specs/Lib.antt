@@ -1,2 +1,1 @@
 pub mod Config
-mod Examples

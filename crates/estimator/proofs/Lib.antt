@@ -1,2 +1,3 @@
 pub mod Span
 pub mod Steady
+mod Examples

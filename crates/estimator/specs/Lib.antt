@@ -4,4 +4,3 @@ pub mod Recovery
 pub mod Increase
 pub mod Update
 pub mod Starred
-mod Examples

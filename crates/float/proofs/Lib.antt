@@ -10,3 +10,4 @@ pub mod Extremes
 pub mod NotNan
 pub mod NotNegative
 pub mod AtMost
+mod Examples

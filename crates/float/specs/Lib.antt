@@ -3,4 +3,3 @@ pub mod Rust
 pub mod Order
 pub mod Answer
 pub mod Claims
-mod Examples

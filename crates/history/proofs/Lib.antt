@@ -17,3 +17,4 @@ pub mod Finite
 pub mod EveryRate
 mod Tested
 mod Sample
+mod Examples

@@ -8,4 +8,3 @@ pub mod Refusals
 pub mod Unrefused
 pub mod Unreached
 pub mod Finite
-mod Examples

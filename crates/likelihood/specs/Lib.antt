@@ -3,4 +3,3 @@ pub mod Probability
 pub mod Newton
 pub mod Bias
 pub mod Objective
-mod Examples

@@ -9,3 +9,4 @@ pub mod Sums
 pub mod Ratio
 pub mod Ceiling
 pub mod AnyOrder
+mod Examples

@@ -1,4 +1,3 @@
 pub mod Plain
 pub mod Exact
 pub mod Ratio
-mod Examples

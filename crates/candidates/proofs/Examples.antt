@@ -1,4 +1,4 @@
--- Worked examples of the definitions beside this file, by bit patterns, which antt computes; the answers are those of the Rust's expressions.
+-- Worked examples of the definitions in specs/, by bit patterns, which antt computes; the answers are those of the Rust's expressions.
 -- They test the definitions; no proof cites them.
 use Rattle.std.specs.Prelude.{ℕ, ◌≡◌, refl, Bool, true, false, List, [], ◌∷◌, map, Float}
 use Rattle.std.specs.Float.{inf}

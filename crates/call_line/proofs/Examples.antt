@@ -1,4 +1,4 @@
--- Worked examples of the definitions beside this file, which antt computes. They test the definitions; no proof cites them.
+-- Worked examples of the definitions in specs/, which antt computes. They test the definitions; no proof cites them.
 use Rattle.std.specs.Prelude.{ℕ, ◌+◌, ◌-◌, ◌*◌, ◌^◌, ◌≡◌, refl, List, [], ◌∷◌, ◌++◌, map, replicate}
 use Rattle.std.specs.Float.Ieee.{of_bits, to_bits, lt}
 use Rattle.float.specs.Rust.{sign_bit}

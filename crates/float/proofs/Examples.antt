@@ -1,4 +1,4 @@
--- Worked examples of the definitions beside this file, by bit patterns, which antt computes. They test the definitions; no proof cites them.
+-- Worked examples of the definitions in specs/, by bit patterns, which antt computes. They test the definitions; no proof cites them.
 use Rattle.std.specs.Prelude.{◌≡◌, ℕ, ◌-◌, ◌^◌, true, false, List, [], ◌∷◌, map, pos, negsuc, refl, Float}
 use Rattle.std.specs.Float.{binary64}
 use Rattle.std.specs.Float.Ieee.{of_bits, to_bits, is_nan, eq, lt, le, round, to_signed, to_unsigned}

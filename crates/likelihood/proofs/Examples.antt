@@ -1,4 +1,4 @@
--- Worked examples of the definitions beside this file, which antt computes. The stated bits are those that the oracle's functions give: the
+-- Worked examples of the definitions in specs/, which antt computes. The stated bits are those that the oracle's functions give: the
 -- Rust's, with the edits that oracle/README.md lists. They test the definitions; no proof cites them.
 use Rattle.std.specs.Prelude.{ℕ, ◌≡◌, refl, Bool, true, false, List, [], ◌∷◌, map, Float}
 use Rattle.std.specs.Float.{binary64}

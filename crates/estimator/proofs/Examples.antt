@@ -1,4 +1,4 @@
--- Worked examples of the definitions beside this file, which antt computes; the answers are those of the Rust. They test the definitions; no proof
+-- Worked examples of the definitions in specs/, which antt computes; the answers are those of the Rust. They test the definitions; no proof
 -- cites them.
 use Rattle.std.specs.Prelude.{ℕ, ◌^◌, ◌-◌, ◌≡◌, refl, List, [], ◌∷◌, map}
 use Rattle.std.specs.Float.{binary64}

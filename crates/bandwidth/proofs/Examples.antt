@@ -1,4 +1,4 @@
--- Worked examples of the definitions beside this file, which antt computes. They test the definitions; no proof cites them.
+-- Worked examples of the definitions in specs/, which antt computes. They test the definitions; no proof cites them.
 use Rattle.std.specs.Prelude.{◌≡◌, ℕ, ◌+◌, ◌-◌, ◌^◌, true, false, List, [], ◌∷◌, ◌++◌, map, replicate, ℤ, pos, negsuc, refl}
 use Rattle.std.specs.Float.Ieee.{add, div, eq, in_float, le, lt, mul, of_bits, of_int, round, sub, to_signed, to_unsigned}
 use Rattle.float.specs.Rounded.{bits}

@@ -1,4 +1,4 @@
--- Worked examples of the definitions beside this file, which antt computes. They test the definitions; no proof cites them.
+-- Worked examples of the definitions in specs/, which antt computes. They test the definitions; no proof cites them.
 use Rattle.std.specs.Prelude.{ℕ, zero, suc, ◌+◌, ◌*◌, ◌≡◌, refl, true, false, List, [], ◌∷◌, ◌++◌, map, length, replicate}
 use Rattle.std.proofs.Math.Option.{none, some}
 use Rattle.std.specs.Float.Ieee.{le, lt, of_bits, of_int, to_bits}

@@ -1,4 +1,4 @@
--- Worked examples of the definitions beside this file, which antt computes. They test the definitions; no proof cites them.
+-- Worked examples of the definitions in specs/, which antt computes. They test the definitions; no proof cites them.
 use Rattle.std.specs.Prelude.{◌≡◌, ℕ, true, false, [], ◌∷◌, map, replicate, refl}
 use Rattle.packets.specs.Summary.{columns_refusal, packets, packet_refusal, refused, add_packet, summary_of, is_of_report, added}
 use Rattle.packets.specs.declared.PacketResult.{PacketResult}

@@ -1,4 +1,4 @@
--- Worked examples of the definitions beside this file, by bit patterns, which antt computes. They test the definitions; no proof cites them.
+-- Worked examples of the definitions in specs/, by bit patterns, which antt computes. They test the definitions; no proof cites them.
 use Rattle.std.specs.Prelude.{ℕ, ◌≡◌, refl, false, List, [], ◌∷◌}
 use Rattle.std.specs.Float.Ieee.{add, div, eq, lt, mul, of_bits, of_int, sub, to_bits}
 use Rattle.std.specs.Float.{binary64}
