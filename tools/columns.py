@@ -12,6 +12,7 @@ DIRECTORY what the gate hands to that program, stdin, and what it has to write, 
 
 import os
 import random
+import shutil
 import subprocess
 import sys
 from pathlib import Path
@@ -69,10 +70,9 @@ def store(directory):
 def proved():
     """The program's path, after rt has proved and built it."""
     print("columns: asking rt for the program, some minutes where it has to be proved", file=sys.stderr)
-    try:
-        done = subprocess.run(["tools/proved.sh", "replay_columns"], cwd=ROOT, capture_output=True, text=True)
-    except FileNotFoundError:
+    if not shutil.which("rt"):
         sys.exit("columns: the Rattle kit is needed, and its command rt is not on the PATH")
+    done = subprocess.run(["tools/proved.sh", "replay_columns"], cwd=ROOT, capture_output=True, text=True)
     if done.returncode != 0:
         sys.exit(f"columns: replay_columns is not proved on this checkout:\n{done.stdout[-600:]}{done.stderr[-600:]}")
     return done.stdout.strip()

@@ -11,7 +11,7 @@ pub record Idles (f : Fed) (ts ss fs out : List ℕ) (p : State) (ts₀ ss₀ fs
   pub taken : f.taken ≡ false
   pub by : FedBy f ts ss fs out (start_of p ts₀ ss₀ fs₀) out₀
 
--- what a turn leaves where C's read answered `got`: -1, 0 at the end of the input, or how many bytes it put at the start of the chunk
+-- what a turn leaves where the read answered `got`: -1, 0 at the end of the input, or how many bytes it put at the start of the chunk
 abbrev pub Turned : ℤ → Fed → List ℕ → List ℕ → List ℕ → List ℕ → State → List ℕ → List ℕ → List ℕ → List ℕ → List ℕ → Type 0
 Turned (negsuc n) f ts ss fs out p ts₀ ss₀ fs₀ chunk out₀ = Idles f ts ss fs out p ts₀ ss₀ fs₀ out₀
 Turned (pos zero) f ts ss fs out p ts₀ ss₀ fs₀ chunk out₀ = Finishes f ts ss fs out p ts₀ ss₀ fs₀ out₀
@@ -27,7 +27,7 @@ some_read (pos (suc n)) = true
 unfoldable pub goes_on : ℤ → Bool → ℕ → Bool
 goes_on got wrote left = some_read got && (wrote && ltb 0 left)
 
--- how the turns end: the chunks were fed, each in a turn, and w was handed to C's write, when the last turn began
+-- how the turns end: the chunks were fed, each in a turn, and w was handed to the write, when the last turn began
 pub record Stops (s : Stop) (ts ss fs chunk out : List ℕ) : Type 0 where
   pub chunks : List (List ℕ)
   pub w : List ℕ

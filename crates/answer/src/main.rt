@@ -26,14 +26,14 @@ struct Stop {
     fed: Fed,
 }
 
-fn main(rt: HostRuntime) -> std::io::Result<()> {
+fn main(rt: HostRuntime) {
     let mut times = [0u64; PLACES];
     let mut sizes: [PacketSize; PLACES] = [0; PLACES];
     let mut flags = [0u8; PLACES];
     let mut chunk = empty_chunk();
     let mut out = empty_room();
     let stop = answer_all(rt, &mut times, &mut sizes, &mut flags, &mut chunk, &mut out);
-    complain(&rt, stop.got, stop.wrote)
+    complain(&rt, stop.got, stop.wrote);
 }
 
 // The buffers are zeros. What these two promise is their lengths alone, so that no proof computes with
@@ -122,12 +122,11 @@ fn goes_on(got: isize, wrote: bool, left: u64) -> bool
 }
 
 // One line on standard error for a run that could not answer its whole input.
-fn complain(rt: &impl Eprint, got: isize, wrote: bool) -> std::io::Result<()> {
+fn complain(rt: &impl Eprint, got: isize, wrote: bool) {
     if got < 0 {
-        eprintln!(rt; "answer: the input cannot be read")?;
+        let _ = eprintln!(rt; "answer: the input cannot be read");
     }
     if !wrote {
-        eprintln!(rt; "answer: the answers cannot be written")?;
+        let _ = eprintln!(rt; "answer: the answers cannot be written");
     }
-    Ok(())
 }

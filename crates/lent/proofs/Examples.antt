@@ -1,4 +1,4 @@
--- Worked examples of the definitions beside this file, which antt computes. They test the definitions; no proof cites them.
+-- Worked examples of the definitions in specs/, which antt computes. They test the definitions; no proof cites them.
 use Rattle.std.specs.Prelude.{ℕ, ◌≡◌, Bool, List, [], ◌∷◌, replicate}
 use Rattle.std.proofs.Math.Path.{refl}
 use Rattle.std.specs.Float.Ieee.{lt, of_bits, to_bits}

@@ -27,13 +27,13 @@ pub data Program : List (List ℕ) → List ℕ → Type 0 where
       → Reached chunks w line len → Finishes r out line len out₀
       → Program chunks (w ++ take r out)
 
--- what a turn leaves where C's read answered `got`: 0 at the end of the input, or how many bytes it put at the start of the chunk
+-- what a turn leaves where the read answered `got`: 0 at the end of the input, or how many bytes it put at the start of the chunk
 pub record Turned (got : ℤ) (f : Fed) (out line : List ℕ) (len : ℕ) (chunk out₀ : List ℕ) : Type 0 where
   pub at_end : got ≡ pos 0 → Finishes f.written out line len out₀
   pub before : (got ≡ pos 0 → ⊥) → Rewrites f out line len (take (clamp_len got (length chunk)) chunk)
   pub fits : f.written ≤ length out
 
--- how the turns end: the chunks were fed, each in a turn, and w was handed to C's write, when the last turn began
+-- how the turns end: the chunks were fed, each in a turn, and w was handed to the write, when the last turn began
 pub record Stops (s : Stop) (out : List ℕ) : Type 0 where
   pub chunks : List (List ℕ)
   pub w : List ℕ

@@ -38,11 +38,11 @@ struct Stop {
     written: usize,
 }
 
-fn main(rt: HostRuntime) -> std::io::Result<()> {
+fn main(rt: HostRuntime) {
     let mut chunk = empty_chunk();
     let mut out = empty_room();
     let stop = rewrite_all(rt, &mut chunk, &mut out);
-    complain(&rt, stop.got, stop.wrote)
+    complain(&rt, stop.got, stop.wrote);
 }
 
 // The buffers are zeros. What these two promise is their lengths alone, so that no proof computes with
@@ -185,12 +185,11 @@ fn rewrite_all(rt: HostRuntime, chunk: &mut [u8], out: &mut [u8]) -> Stop
 }
 
 // One line on standard error for a run that could not write its whole input anew.
-fn complain(rt: &impl Eprint, got: isize, wrote: bool) -> std::io::Result<()> {
+fn complain(rt: &impl Eprint, got: isize, wrote: bool) {
     if got < 0 {
-        eprintln!(rt; "rewrite: the input cannot be read")?;
+        let _ = eprintln!(rt; "rewrite: the input cannot be read");
     }
     if !wrote {
-        eprintln!(rt; "rewrite: the lines cannot be written")?;
+        let _ = eprintln!(rt; "rewrite: the lines cannot be written");
     }
-    Ok(())
 }
