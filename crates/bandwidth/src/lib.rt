@@ -307,6 +307,9 @@ fn in_units(n: u64, unit: u64) -> RateAnswer
     RateAnswer::REFUSED
 }
 
+// 2^53: up to it each whole number is a float.
+const MOST_EXACT: i64 = 9_007_199_254_740_992;
+
 impl DataSize {
     pub const ZERO: DataSize = DataSize { bytes: 0 };
 
@@ -339,7 +342,7 @@ impl DataSize {
         ensures { result ≡ Size.float self }
     {
         let bytes = self.bytes;
-        if bytes <= 9_007_199_254_740_992 {
+        if bytes <= MOST_EXACT {
             if bytes >= -9_007_199_254_740_992 {
                 return FloatAnswer {
                     value: bytes as f64,

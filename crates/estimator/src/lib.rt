@@ -590,6 +590,7 @@ impl Estimator {
 }
 
 // Whether the rate is below the delay estimate and the maximum.
+#[tactic(auto, unfolding(crate::specs::Update::is_limiting))]
 fn is_limiting(loss_limited_bandwidth: Bitrate, delay_based_estimate: Bitrate) -> bool
     ensures { result ≡ Update.is_limiting loss_limited_bandwidth delay_based_estimate }
 {
