@@ -3,7 +3,7 @@
 Under the edit, the tests of the claims (crates/history/proofs/Tested.antt, which proves that the claims make them true)
 are computed, under both profiles, on the list that the edit names as 'list NAME' (crates/history/proofs/Sample.antt), and from a false test the
 negation of the edited claims is proved: of Unrefused1, of RatioAtMostOne and Never6 together, of StaysFinite and AtMost
-together, or of Demand3 and Refusals2 together. Works on a copy under target/refute; the crates below history are taken as they were proved last.
+together, or of Demand3 and Refusals2 together. Works on a copy under target/refute of history and the crates below it.
 Exit status 1 if an edit is not refuted; one that names no list is not, unless it stands in NOT_COMPUTED."""
 import os
 import re
@@ -18,44 +18,44 @@ crate = copy + "/crates/history"
 # edits that name no list, and why none is computed
 NOT_COMPUTED = {"full-one-early": "the shortest list has 10^9 + 1 reports"}
 
-IMPORTS = """use mathlib.Core.Path.{sym, _∙_}
+IMPORTS = """use mathlib.Core.Path.{sym, ◌∙◌}
 use mathlib.Core.Bool.{true≢false}
-use Rattle·history·specs.specs.Demand.{Demand3}
-use Rattle·history·specs.specs.Refusals.{Refusals2}
-use Rattle·history·specs.specs.Unrefused.{Unrefused1}
-use Rattle·history·specs.specs.Unreached.{RatioAtMostOne, Never6}
-use Rattle·history·specs.specs.Finite.{StaysFinite, AtMost}
-use Rattle·history·proofs.proofs.Tested.{outcome-met, untraced-met, unreached-met, unescaped-met}
+use Rattle.history.specs.Demand.{Demand3}
+use Rattle.history.specs.Refusals.{Refusals2}
+use Rattle.history.specs.Unrefused.{Unrefused1}
+use Rattle.history.specs.Unreached.{RatioAtMostOne, Never6}
+use Rattle.history.specs.Finite.{StaysFinite, AtMost}
+use Rattle.history.proofs.Tested.{outcome_met, untraced_met, unreached_met, unescaped_met}
 """
 
 REFUTED = {
-    "outcome": """false-here : outcome {calls} .met ≡ false
+    "outcome": """false_here : (outcome {calls}).met ≡ false
 {unfolding}
-false-here = refl
+false_here = refl
 
 refuted : Demand3 → Refusals2 → ⊥
-refuted d r = true≢false (sym (outcome-met d r {calls}) ∙ false-here)
+refuted d r = true≢false (sym (outcome_met d r {calls}) ∙ false_here)
 """,
-    "untraced": """false-here : untraced {calls} ≡ false
+    "untraced": """false_here : untraced {calls} ≡ false
 {unfolding}
-false-here = refl
+false_here = refl
 
 refuted : Unrefused1 → ⊥
-refuted u = true≢false (sym (untraced-met u {calls}) ∙ false-here)
+refuted u = true≢false (sym (untraced_met u {calls}) ∙ false_here)
 """,
-    "unreached": """false-here : unreached {calls} ≡ false
+    "unreached": """false_here : unreached {calls} ≡ false
 {unfolding}
-false-here = refl
+false_here = refl
 
 refuted : RatioAtMostOne → Never6 → ⊥
-refuted r n = true≢false (sym (unreached-met r n {calls}) ∙ false-here)
+refuted r n = true≢false (sym (unreached_met r n {calls}) ∙ false_here)
 """,
-    "unescaped": """false-here : unescaped {calls} ≡ false
+    "unescaped": """false_here : unescaped {calls} ≡ false
 {unfolding}
-false-here = refl
+false_here = refl
 
 refuted : StaysFinite → AtMost → ⊥
-refuted s m = true≢false (sym (unescaped-met s m {calls}) ∙ false-here)
+refuted s m = true≢false (sym (unescaped_met s m {calls}) ∙ false_here)
 """,
 }
 
@@ -71,12 +71,14 @@ def write(path, text):
 
 
 def fresh_copy():
+    """history and the crates below it, which its line in crates.txt names, without what rt keeps in their out/."""
     shutil.rmtree(copy, ignore_errors=True)
-    os.makedirs(copy + "/target")
-    shutil.copy(root + "/crates.txt", copy)
-    shutil.copytree(root + "/crates", copy + "/crates")
-    for part in ("inc", "rlib", "stamp"):
-        shutil.copytree(f"{root}/target/{part}", f"{copy}/target/{part}")
+    os.makedirs(copy)
+    lines = [line for line in read(root + "/crates.txt").splitlines() if not line.startswith("#")]
+    below = next(line.split(":")[1].split() for line in lines if line.split(":")[0] == "history")
+    write(copy + "/crates.txt", "".join(line + "\n" for line in lines if line.split(":")[0] in [*below, "history"]))
+    for name in [*below, "history"]:
+        shutil.copytree(f"{root}/crates/{name}", f"{copy}/crates/{name}", ignore=shutil.ignore_patterns("out", "must-fail"))
     subprocess.run(["git", "init", "-q"], cwd=copy, check=True)
 
 
@@ -91,9 +93,6 @@ def keep_the_claims_alone(list_name):
             os.remove(f"{crate}/proofs/{name}")
     write(crate + "/proofs/Lib.antt", "mod Tested\nmod Sample\n")
     write(crate + "/proofs/Sample.antt", IMPORTS + head + REFUTED[test].format(calls=calls, unfolding=unfolding))
-    os.remove(crate + "/specs/Examples.antt")
-    specs = read(crate + "/specs/Lib.antt")
-    write(crate + "/specs/Lib.antt", specs.replace("mod Examples\n", ""))
 
 
 def refuted(edit):
@@ -104,20 +103,21 @@ def refuted(edit):
         print(f"{edit}: not computed" + (f" ({NOT_COMPUTED[edit]})" if edit in NOT_COMPUTED else ", NOT refuted"))
         return edit in NOT_COMPUTED
     name = named[1]
-    shutil.rmtree(crate)
-    shutil.copytree(root + "/crates/history", crate)
+    for part in ("specs", "proofs"):
+        shutil.rmtree(f"{crate}/{part}")
+        shutil.copytree(f"{root}/crates/history/{part}", f"{crate}/{part}")
     source = read(f"{crate}/{file}")
     assert source.count(old) == 1, edit
     write(f"{crate}/{file}", source.replace(old, new))
     keep_the_claims_alone(name)
-    run = subprocess.run(["rt", "dev", "history"], cwd=copy, capture_output=True, text=True)
+    run = subprocess.run(["rt", "check"], cwd=crate, capture_output=True, text=True)
     print(f"{edit}: {'false' if run.returncode == 0 else 'NOT refuted'} on {name}", flush=True)
     if run.returncode:
         print("\n".join(line[:300] for line in (run.stdout + run.stderr).splitlines() if "error" in line))
     return run.returncode == 0
 
 
-subprocess.run(["rt", "dev", "history"], cwd=root, check=True, capture_output=True)
+subprocess.run(["rt", "check"], cwd=root + "/crates/history", check=True, capture_output=True)
 fresh_copy()
 edits = sys.argv[1:] or sorted(name[:-5] for name in os.listdir(root + "/crates/history/must-fail"))
 assert edits, "no edits"
