@@ -72,7 +72,7 @@ fn answer_all(
         let got = streams::read_chunk(&mut rt.stdin(), chunk);
         let fed = take_turn(got, state, times, sizes, flags, chunk, out);
         let written = fed.written;
-        let wrote = streams::write_all(&rt, &out[..written]);
+        let wrote = streams::write_all(&mut rt.stdout(), &out[..written]);
         if !goes_on(got, wrote, left) {
             return Stop { got, wrote, fed };
         }

@@ -163,7 +163,7 @@ fn rewrite_all(rt: HostRuntime, chunk: &mut [u8], out: &mut [u8]) -> Stop
         let got = streams::read_chunk(&mut rt.stdin(), chunk);
         let fed = take_turn(got, line, len, chunk, out);
         let written = fed.written;
-        let wrote = streams::write_all(&rt, &out[..written]);
+        let wrote = streams::write_all(&mut rt.stdout(), &out[..written]);
         let stop = Stop {
             got,
             wrote,

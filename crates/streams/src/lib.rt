@@ -2,10 +2,10 @@
 #![tactic(auto)]
 
 ghost use Rattle.std.specs.Prelude.{◌≡◌, true, IfOk};
-ghost use Rattle.std.specs.Io.KnownBytes.{Consumes};
+ghost use Rattle.std.specs.Io.KnownBytes.{Appends, Consumes};
 ghost use Rattle.streams.specs.Reads.{Reads};
 
-use std::io::{self, ErrorKind, Read};
+use std::io::{self, ErrorKind, Read, Write};
 
 // Fills the line from the input. Answers whether there was a whole one: false where the input ends
 // before.
@@ -35,6 +35,8 @@ pub fn read_chunk<R: Read>(input: &mut R, chunk: &mut [u8]) -> isize
 }
 
 // Writes all of the bytes. Answers whether that did not fail.
-pub fn write_all<P: Print>(out: &P, bytes: &[u8]) -> bool {
+pub fn write_all<W: Write>(out: &mut W, bytes: &[u8]) -> bool
+    ensures { result ≡ true → Appends (W.contents out.old) (W.contents out.new) bytes.now }
+{
     out.write_all(bytes).is_ok()
 }
