@@ -69,8 +69,8 @@ head -c 100000000 /dev/zero | tr '\0' '7' >"$work/list"
 printf '\n%s\n%s\n' "$read" "$wide_read" >>"$work/list"
 same "a line of 100 MB"
 
-# A full and a closed output: the program ends, by the signal SIGPIPE (141) in the second case, and what
-# was written before is right.
+# A full and a closed output: the program ends, and tells that the answers cannot be written; what was
+# written before is right.
 yes "$read" | head -n 1000000 >"$work/list"
 ends "a full output" 20 0 "$program" <"$work/list" >/dev/full
 echo "a full output: it ends"
