@@ -97,7 +97,8 @@ def keep_the_claims_alone(list_name):
 
 def refuted(edit):
     text = read(f"{root}/crates/history/must-fail/{edit}.edit")
-    file, old, new = (re.search(rf"^{key}: (.*)$", text, re.M)[1] for key in ("file", "old", "new"))
+    file = re.search(r"^file: (.*)$", text, re.M)[1]
+    pairs = re.findall(r"^old: (.*)\nnew: (.*)$", text, re.M)
     named = re.search(r"\(list (\S+)\)", text)
     if not named:
         print(f"{edit}: not computed" + (f" ({NOT_COMPUTED[edit]})" if edit in NOT_COMPUTED else ", NOT refuted"))
@@ -107,8 +108,10 @@ def refuted(edit):
         shutil.rmtree(f"{crate}/{part}")
         shutil.copytree(f"{root}/crates/history/{part}", f"{crate}/{part}")
     source = read(f"{crate}/{file}")
-    assert source.count(old) == 1, edit
-    write(f"{crate}/{file}", source.replace(old, new))
+    for old, new in pairs:
+        assert source.count(old) == 1, edit
+        source = source.replace(old, new)
+    write(f"{crate}/{file}", source)
     keep_the_claims_alone(name)
     run = subprocess.run(["rt", "check"], cwd=crate, capture_output=True, text=True)
     print(f"{edit}: {'false' if run.returncode == 0 else 'NOT refuted'} on {name}", flush=True)

@@ -2,13 +2,14 @@
 // `call_list`'s; here are the buffers, the reads and the writes.
 #![tactic(auto)]
 
-ghost use Rattle.std.specs.Prelude.{◌≤◌, ◌/◌, ◌≡◌, length};
+ghost use Rattle.std.specs.Prelude.{◌≤◌, ◌/◌, ◌≡◌, length, IfOk};
 ghost use Rattle.call_list.specs.Feed.{row_width};
 ghost use Rattle.call_list.specs.Whole.{none};
 ghost use Rattle.answer.specs.Turn.{Turned, goes_on, Stops};
 
 use call_list::{Fed, PLACES, ROW, State};
 use packets::PacketSize;
+use std::io;
 
 // The bytes of a read, and room for the answers to as many lines
 const CHUNK: usize = 16_384;
@@ -16,13 +17,13 @@ const CHUNK: usize = 16_384;
 const ROOM: usize = CHUNK * ROW;
 
 // What a read answers at the end of the input
-const END: isize = 0;
+const END: usize = 0;
 
-// The last turn: what its read answered, whether its write took all, and what it left.
-#[derive(Clone, Copy)]
+// The last turn: what its read and its write answered, and what it left.
+#[derive(Drop)]
 struct Stop {
-    got: isize,
-    wrote: bool,
+    got: io::Result<usize>,
+    wrote: io::Result<()>,
     fed: Fed,
 }
 
@@ -33,7 +34,7 @@ fn main(rt: HostRuntime) {
     let mut chunk = empty_chunk();
     let mut out = empty_room();
     let stop = answer_all(rt, &mut times, &mut sizes, &mut flags, &mut chunk, &mut out);
-    complain(&rt, stop.got, stop.wrote);
+    complain(&rt, stop);
 }
 
 // The buffers are zeros. What these two promise is their lengths alone, so that no proof computes with
@@ -70,10 +71,9 @@ fn answer_all(
     let mut left = u64::MAX;
     'turns: loop {
         let got = streams::read_chunk(&mut rt.stdin(), chunk);
-        let fed = take_turn(got, state, times, sizes, flags, chunk, out);
-        let written = fed.written;
-        let wrote = streams::write_all(&mut rt.stdout(), &out[..written]);
-        if !goes_on(got, wrote, left) {
+        let fed = take_turn(&got, state, times, sizes, flags, chunk, out);
+        let wrote = streams::write_all(&mut rt.stdout(), &out[..fed.written]);
+        if !goes_on(&got, &wrote, left) {
             return Stop { got, wrote, fed };
         }
         state = fed.state;
@@ -82,8 +82,9 @@ fn answer_all(
 }
 
 // What a read that answered `got` leads to: its bytes are fed, and the end of the input finishes.
+#[tactic(auto, using(crate::proofs::Turns::turn_fed))]
 fn take_turn(
-    got: isize,
+    got: &io::Result<usize>,
     state: State,
     times: &mut [u64; PLACES],
     sizes: &mut [PacketSize; PLACES],
@@ -91,42 +92,37 @@ fn take_turn(
     chunk: &[u8],
     out: &mut [u8],
 ) -> Fed
-    ensures { Turned got result times.new sizes.new flags.new out.new state times.old sizes.old
+    ensures { Turned got.now result times.new sizes.new flags.new out.new state times.old sizes.old
         flags.old chunk.now out.old }
 {
-    if got < 0 {
-        return Fed {
+    match got {
+        Err(_) => Fed {
             taken: false,
             state,
             written: 0,
-        };
+        },
+        Ok(END) => call_list::finish(state, times, sizes, flags, out),
+        Ok(n) => {
+            let n = (*n).min(chunk.len());
+            call_list::feed(state, times, sizes, flags, &chunk[..n], out)
+        }
     }
-    if got == END {
-        return call_list::finish(state, times, sizes, flags, out);
-    }
-    let n = io::count(got, chunk);
-    call_list::feed(state, times, sizes, flags, &chunk[..n], out)
 }
 
 // A read that failed or came to the end, and a write that failed, are the last.
-fn goes_on(got: isize, wrote: bool, left: u64) -> bool
-    ensures { result ≡ goes_on got wrote left }
+#[tactic(auto, unfolding(crate::specs::Turn::goes_on))]
+fn goes_on(got: &io::Result<usize>, wrote: &io::Result<()>, left: u64) -> bool
+    ensures { result ≡ goes_on got.now wrote.now left }
 {
-    if got <= 0 {
-        return false;
-    }
-    if !wrote {
-        return false;
-    }
-    left > 0
+    matches!(got, Ok(1..)) && wrote.is_ok() && left > 0
 }
 
 // One line on standard error for a run that could not answer its whole input.
-fn complain(rt: &impl Eprint, got: isize, wrote: bool) {
-    if got < 0 {
+fn complain(rt: &impl Eprint, stop: Stop) {
+    if stop.got.is_err() {
         let _ = eprintln!(rt; "answer: the input cannot be read");
     }
-    if !wrote {
+    if stop.wrote.is_err() {
         let _ = eprintln!(rt; "answer: the answers cannot be written");
     }
 }

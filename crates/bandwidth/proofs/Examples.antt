@@ -1,17 +1,17 @@
 -- Worked examples of the definitions in specs/, which antt computes. They test the definitions; no proof cites them.
-use Rattle.std.specs.Prelude.{◌≡◌, ℕ, ◌+◌, ◌-◌, ◌^◌, true, false, List, [], ◌∷◌, ◌++◌, map, replicate, ℤ, pos, negsuc, refl}
+use Rattle.std.specs.Prelude.{◌≡◌, ℕ, ◌+◌, ◌-◌, ◌^◌, true, false, List, [], ◌∷◌, ◌++◌, map, replicate, ℤ, pos, negsuc, refl, Some, None, Result, Ok, Err}
 use Rattle.std.specs.Float.Ieee.{add, div, eq, in_float, le, lt, mul, of_bits, of_int, round, sub, to_signed, to_unsigned}
 use Rattle.float.specs.Rounded.{bits}
 use Rattle.float.specs.Rust.{ceiling, half_away}
-use Rattle.float.specs.Answer.{answered, refused, clamped}
-use Rattle.integer.specs.Fitted.{fitted as fitted_integer, unsigned as unsigned_integer, in_i64, larger}
+use Rattle.float.specs.Answer.{clamped}
+use Rattle.refusal.specs.declared.Refusal.{Refusal}
+use Rattle.refusal.specs.declared.Refusal.TheVariants.{Arithmetic}
+use Rattle.integer.specs.Fitted.{fitted as fitted_integer, unsigned as unsigned_integer, in_i64}
 use Rattle.duration.specs.Seconds.{seconds}
 use Rattle.bandwidth.specs.Rate as Rate
 use Rattle.bandwidth.specs.Size as Size
 use Rattle.bandwidth.specs.declared.Bitrate.{Bitrate}
-use Rattle.bandwidth.specs.declared.RateAnswer.{RateAnswer}
-use Rattle.bandwidth.specs.declared.SizeAnswer.{SizeAnswer}
-use Rattle.bandwidth.specs.declared.OptionBitrate.TheVariants.{Some, None}
+use Rattle.bandwidth.specs.declared.DataSize.{DataSize}
 
 -- ---- rates
 
@@ -40,8 +40,11 @@ two = bps 0x4000000000000000
 abbrev rates : List Bitrate
 rates = least_rate ∷ minus_one ∷ bps 0x8000000000000000 ∷ bps 0 ∷ one ∷ two ∷ infinite ∷ not_anumber ∷ []
 
-abbrev taken : Bitrate → RateAnswer
-taken = Rate.answered
+abbrev taken : Bitrate → Result Bitrate Refusal
+taken r = Ok r
+
+abbrev refused : {A : Type 0} → Result A Refusal
+refused = Err Arithmetic
 
 -- a whole number above 2^53 goes to the nearest float, a tie to the even one: 2^53 + 1 down, 2^53 + 3 up; u64::MAX is the constant MAX
 nearest_examples :
@@ -51,7 +54,7 @@ unfolding of_bits of_int
 nearest_examples = refl
 
 -- 2^64 - 1 bit/s, and one more
-whole_examples : map Rate.whole_rate ((2 ^ 64 - 1) ∷ (2 ^ 64) ∷ []) ≡ taken (bps 0x43F0000000000000) ∷ Rate.refused ∷ []
+whole_examples : map Rate.whole_rate ((2 ^ 64 - 1) ∷ (2 ^ 64) ∷ []) ≡ taken (bps 0x43F0000000000000) ∷ refused ∷ []
 unfolding of_bits of_int Rate.whole_rate
 whole_examples = refl
 
@@ -71,10 +74,10 @@ valid_examples = refl
 
 -- 1, infinity, minus infinity and NaN, each minus each rate: infinity minus itself is NaN, and taken, since it is at least itself
 minus_examples :
-    map (Rate.minus one) rates ≡ map taken (infinite ∷ two ∷ one ∷ one ∷ bps 0 ∷ []) ++ replicate 3 Rate.refused
-    × map (Rate.minus infinite) rates ≡ replicate 6 (taken infinite) ++ (taken not_anumber ∷ Rate.refused ∷ [])
-    × map (Rate.minus least_rate) rates ≡ taken not_anumber ∷ replicate 7 Rate.refused
-    × map (Rate.minus not_anumber) rates ≡ replicate 8 Rate.refused
+    map (Rate.minus one) rates ≡ map taken (infinite ∷ two ∷ one ∷ one ∷ bps 0 ∷ []) ++ replicate 3 refused
+    × map (Rate.minus infinite) rates ≡ replicate 6 (taken infinite) ++ (taken not_anumber ∷ refused ∷ [])
+    × map (Rate.minus least_rate) rates ≡ taken not_anumber ∷ replicate 7 refused
+    × map (Rate.minus not_anumber) rates ≡ replicate 8 refused
 unfolding le of_bits sub Rate.minus
 minus_examples = (refl, refl, refl, refl)
 
@@ -164,8 +167,8 @@ carried_examples = refl
 
 -- 0 bit/s between 1 and 2; between infinity and 2, NaN and 2, 0 and NaN
 clamp_examples :
-    map (λ r. Rate.clamped (bps 0) r two) (one ∷ infinite ∷ not_anumber ∷ []) ≡ taken one ∷ Rate.refused ∷ Rate.refused ∷ []
-    × Rate.clamped (bps 0) (bps 0) not_anumber ≡ Rate.refused
+    map (λ r. Rate.clamped (bps 0) r two) (one ∷ infinite ∷ not_anumber ∷ []) ≡ taken one ∷ refused ∷ refused ∷ []
+    × Rate.clamped (bps 0) (bps 0) not_anumber ≡ refused
 unfolding le lt of_bits clamped Rate.clamped
 clamp_examples = (refl, refl)
 
@@ -176,17 +179,17 @@ abbrev about_2_53 : List ℤ
 about_2_53 = pos (2 ^ 53) ∷ negsuc (2 ^ 53 - 1) ∷ pos (2 ^ 53 + 1) ∷ negsuc (2 ^ 53) ∷ []
 
 float_examples :
-    map (λ z. Size.float (Size.size z)) about_2_53 ≡ answered (bits 0x4340000000000000) ∷ answered (bits 0xC340000000000000) ∷ refused ∷ refused ∷ []
-    × map (λ z. Size.kilobytes (Size.size z)) about_2_53 ≡ answered (bits 0x42A0624DD2F1A9FC) ∷ answered (bits 0xC2A0624DD2F1A9FC) ∷ refused ∷ refused ∷ []
+    map (λ z. Size.float (Size.size z)) about_2_53 ≡ Ok (bits 0x4340000000000000) ∷ Ok (bits 0xC340000000000000) ∷ refused ∷ refused ∷ []
+    × map (λ z. Size.kilobytes (Size.size z)) about_2_53 ≡ Ok (bits 0x42A0624DD2F1A9FC) ∷ Ok (bits 0xC2A0624DD2F1A9FC) ∷ refused ∷ refused ∷ []
 unfolding div in_float of_bits of_int Size.float Size.kilobytes
 float_examples = (refl, refl)
 
 -- over a second, and over none: a size beyond is refused first
 seconds_examples :
     map (λ z. Size.over (Size.size z) (record { nanos = 1000000000 })) about_2_53 ≡
-    taken (bps 0x4370000000000000) ∷ taken (bps 0xC370000000000000) ∷ Rate.refused ∷ Rate.refused ∷ []
-    × map (λ z. Size.over (Size.size z) (record { nanos = 0 })) about_2_53 ≡ taken (bps 0) ∷ taken (bps 0) ∷ Rate.refused ∷ Rate.refused ∷ []
-unfolding add div eq in_float mul of_bits of_int seconds Rate.over Size.over
+    taken (bps 0x4370000000000000) ∷ taken (bps 0xC370000000000000) ∷ refused ∷ refused ∷ []
+    × map (λ z. Size.over (Size.size z) (record { nanos = 0 })) about_2_53 ≡ taken (bps 0) ∷ taken (bps 0) ∷ refused ∷ refused ∷ []
+unfolding add div eq in_float mul of_bits of_int seconds Rate.over Size.float Size.over
 seconds_examples = (refl, refl)
 
 -- the largest and the least size
@@ -196,36 +199,35 @@ most = pos 9223372036854775807
 abbrev least : ℤ
 least = negsuc 9223372036854775807
 
-abbrev bytes : ℤ → SizeAnswer
-bytes z = Size.answered (Size.size z)
+abbrev bytes : ℤ → Result DataSize Refusal
+bytes z = Ok (Size.size z)
 
 -- as_bytes_usize
 unsigned_examples :
-    map (λ z. (Size.unsigned (Size.size z)).refusal) (pos 0 ∷ most ∷ negsuc 0 ∷ least ∷ []) ≡ 0 ∷ 0 ∷ 7 ∷ 7 ∷ []
-    × (Size.unsigned (Size.size most)).value ≡ 9223372036854775807
+    map (λ z. Size.unsigned (Size.size z)) (pos 0 ∷ most ∷ negsuc 0 ∷ least ∷ []) ≡ Ok 0 ∷ Ok 9223372036854775807 ∷ refused ∷ refused ∷ []
 unfolding Size.unsigned unsigned_integer
-unsigned_examples = (refl, refl)
+unsigned_examples = refl
 
 -- sums, differences and differences of at least 0, with the largest and the least
 arithmetic_examples :
-    map (λ z. Size.plus (Size.size most) (Size.size z)) (pos 0 ∷ pos 1 ∷ least ∷ []) ≡ bytes most ∷ Size.refused ∷ bytes (negsuc 0) ∷ []
-    × map (λ z. Size.minus (Size.size least) (Size.size z)) (pos 0 ∷ pos 1 ∷ least ∷ []) ≡ bytes least ∷ Size.refused ∷ bytes (pos 0) ∷ []
+    map (λ z. Size.plus (Size.size most) (Size.size z)) (pos 0 ∷ pos 1 ∷ least ∷ []) ≡ bytes most ∷ refused ∷ bytes (negsuc 0) ∷ []
+    × map (λ z. Size.minus (Size.size least) (Size.size z)) (pos 0 ∷ pos 1 ∷ least ∷ []) ≡ bytes least ∷ refused ∷ bytes (pos 0) ∷ []
     × map (λ z. Size.saturating_minus (Size.size (pos 0)) (Size.size z)) (pos 1 ∷ negsuc 0 ∷ most ∷ least ∷ []) ≡
-    bytes (pos 0) ∷ bytes (pos 1) ∷ bytes (pos 0) ∷ Size.refused ∷ []
-unfolding in_i64 fitted_integer larger Size.plus Size.minus Size.saturating_minus
+    bytes (pos 0) ∷ bytes (pos 1) ∷ bytes (pos 0) ∷ refused ∷ []
+unfolding in_i64 fitted_integer Size.plus Size.minus Size.saturating_minus
 arithmetic_examples = (refl, refl, refl)
 
 -- 1 byte and size 0 × 2^63 - 1 and × 2^63: the factor is refused, whatever the size; the least size × 1 and × -1
 times_examples :
-    map (Size.times_unsigned (Size.size (pos 1))) ((2 ^ 63 - 1) ∷ (2 ^ 63) ∷ []) ≡ bytes most ∷ Size.refused ∷ []
-    × map (Size.times_unsigned (Size.size (pos 0))) ((2 ^ 63 - 1) ∷ (2 ^ 63) ∷ []) ≡ bytes (pos 0) ∷ Size.refused ∷ []
-    × map (λ z. Size.sized (Size.times_signed (Size.size least) z)) (pos 1 ∷ negsuc 0 ∷ []) ≡ bytes least ∷ Size.refused ∷ []
+    map (Size.times_unsigned (Size.size (pos 1))) ((2 ^ 63 - 1) ∷ (2 ^ 63) ∷ []) ≡ bytes most ∷ refused ∷ []
+    × map (Size.times_unsigned (Size.size (pos 0))) ((2 ^ 63 - 1) ∷ (2 ^ 63) ∷ []) ≡ bytes (pos 0) ∷ refused ∷ []
+    × map (λ z. Size.times_signed (Size.size least) z) (pos 1 ∷ negsuc 0 ∷ []) ≡ Ok least ∷ refused ∷ []
 unfolding in_i64 fitted_integer Size.times_unsigned Size.times_signed
 times_examples = (refl, refl, refl)
 
 -- a sum stays refused, though what follows would bring it back; no sizes are 0
 total_examples :
     map Size.total ([] ∷ (most ∷ negsuc 0 ∷ pos 1 ∷ []) ∷ (most ∷ pos 1 ∷ negsuc 0 ∷ []) ∷ (least ∷ negsuc 0 ∷ most ∷ []) ∷ []) ≡
-    bytes (pos 0) ∷ bytes most ∷ Size.refused ∷ Size.refused ∷ []
-unfolding in_i64 fitted_integer Size.plus Size.add_to Size.total
+    bytes (pos 0) ∷ bytes most ∷ refused ∷ refused ∷ []
+unfolding in_i64 fitted_integer Size.plus Size.total
 total_examples = refl

@@ -1,5 +1,3 @@
-pub mod Field
-pub mod Units
 pub mod Exact
 pub mod NotNegativeRate
 pub mod Limited

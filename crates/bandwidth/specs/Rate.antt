@@ -1,8 +1,11 @@
 -- Rates: what `Bitrate` of bandwidth.rs answers. Definitions only.
-use Rattle.std.specs.Prelude.{ℕ, ◌^◌, Bool, cond, ◌&&◌, pos, nat_lt, Float}
+use Rattle.std.specs.Prelude.{ℕ, ◌^◌, Bool, if◌then◌else◌, ◌&&◌, pos, nat_lt, Float, Option, Some, None, Result, Ok, Err}
 use Rattle.std.specs.Float.{binary64}
 use Rattle.std.specs.Float.Ieee.{of_int, to_signed, to_unsigned, le, lt, eq}
 use Rattle.std.specs.Float.Ieee.Scale.{finite}
+use Rattle.refusal.specs.Outcome.{and_then}
+use Rattle.refusal.specs.declared.Refusal.{Refusal}
+use Rattle.refusal.specs.declared.Refusal.TheVariants.{Arithmetic}
 use Rattle.float.specs.Rounded.{◌⊕◌, ◌⊖◌, ◌⊗◌, ◌⊘◌, bits, eight}
 use Rattle.float.specs.Rust.{minimum, maximum, ceiling, half_away}
 use Rattle.float.specs.Answer.{clamped as clamped_float}
@@ -10,22 +13,12 @@ use Rattle.duration.specs.Seconds.{seconds}
 use Rattle.duration.specs.declared.Duration.{Duration}
 use Rattle.bandwidth.specs.declared.Bitrate.{Bitrate}
 use Rattle.bandwidth.specs.declared.DataSize.{DataSize}
-use Rattle.bandwidth.specs.declared.RateAnswer.{RateAnswer}
-use Rattle.bandwidth.specs.declared.OptionBitrate.{OptionBitrate}
-use Rattle.bandwidth.specs.declared.OptionBitrate.TheVariants.{Some, None}
 
 abbrev pub rate : Float → Bitrate
 rate x = record { bps = x }
 
 abbrev pub zero : Bitrate
 zero = rate (bits 0)
-
-abbrev pub answered : Bitrate → RateAnswer
-answered r = record { rate = r; refusal = 0 }
-
--- a refused rate is 0.0 beside the number 7
-abbrev pub refused : RateAnswer
-refused = record { rate = zero; refusal = 7 }
 
 -- 10^15 bit/s: the most that code 2 takes, and the limit of products, sums and candidates (Q-5)
 abbrev pub most_rate : Bitrate
@@ -38,8 +31,8 @@ abbrev pub nearest : ℕ → Bitrate
 nearest n = rate (of_int binary64 (pos n))
 
 -- a whole rate above 2^64 - 1 bit/s is refused (kbps, mbps, gbps)
-unfoldable pub whole_rate : ℕ → RateAnswer
-whole_rate n = cond (nat_lt n (2 ^ 64)) (answered (nearest n)) refused
+unfoldable pub whole_rate : ℕ → Result Bitrate Refusal
+whole_rate n = if nat_lt n (2 ^ 64) then Ok (nearest n) else Err Arithmetic
 
 -- ---- to other types
 
@@ -48,15 +41,13 @@ unfoldable pub upwards : Bitrate → ℕ
 upwards r = to_unsigned 64 (ceiling r.bps)
 
 -- Some where finite (as_valid)
-unfoldable pub valid : Bitrate → OptionBitrate
-valid r = cond (finite r.bps) (Some r) None
+unfoldable pub valid : Bitrate → Option Bitrate
+valid r = if finite r.bps then Some r else None
 
 -- ---- bounds
 
-unfoldable pub clamped : Bitrate → Bitrate → Bitrate → RateAnswer
-clamped r min max =
-    let x = clamped_float r.bps min.bps max.bps in
-    record { rate = rate x.value; refusal = x.refusal }
+unfoldable pub clamped : Bitrate → Bitrate → Bitrate → Result Bitrate Refusal
+clamped r min max = and_then (clamped_float r.bps min.bps max.bps) (λ x. Ok (rate x))
 
 unfoldable pub smaller : Bitrate → Bitrate → Bitrate
 smaller a b = rate (minimum a.bps b.bps)
@@ -72,15 +63,15 @@ carried r d = record { bytes = to_signed 63 (half_away (r.bps ⊗ seconds d ⊘ 
 
 -- "becomes 10^15 bit/s when its operands are finite and the result is larger. Infinite operands, which mean "absent", act as before." (Q-5)
 unfoldable pub limited : Bool → Bitrate → Bitrate
-limited operands_finite r = cond (operands_finite && lt most_rate.bps r.bps) most_rate r
+limited operands_finite r = if operands_finite && lt most_rate.bps r.bps then most_rate else r
 
 -- "a rate times a factor" (Mul<f64>)
 unfoldable pub times : Bitrate → Float → Bitrate
 times r x = limited (finite r.bps && finite x) (rate (r.bps ⊗ x))
 
 -- refused unless the first is at least the second, so also where one is NaN (Sub)
-unfoldable pub minus : Bitrate → Bitrate → RateAnswer
-minus a b = cond (le b.bps a.bps) (answered (rate (a.bps ⊖ b.bps))) refused
+unfoldable pub minus : Bitrate → Bitrate → Result Bitrate Refusal
+minus a b = if le b.bps a.bps then Ok (rate (a.bps ⊖ b.bps)) else Err Arithmetic
 
 -- "a rate plus a rate" (Add)
 unfoldable pub plus : Bitrate → Bitrate → Bitrate
@@ -88,4 +79,4 @@ plus a b = limited (finite a.bps && finite b.bps) (rate (a.bps ⊕ b.bps))
 
 -- a rate over 0.0 gives rate zero (Div<f64>)
 unfoldable pub over : Bitrate → Float → Bitrate
-over r x = cond (eq x (bits 0)) zero (rate (r.bps ⊘ x))
+over r x = if eq x (bits 0) then zero else rate (r.bps ⊘ x)

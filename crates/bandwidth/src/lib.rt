@@ -1,58 +1,28 @@
-// Bit rates and data sizes: crates/proto/src/bandwidth.rs. Operators are named functions.
+// Bit rates and data sizes: crates/proto/src/bandwidth.rs. What can be refused is a named function
+// in place of Rust's operator.
 #![tactic(auto)]
 
-ghost use Rattle.std.specs.Prelude.{◌≡◌, ◌*◌, ◌<◌, true, false, ◌&&◌, pos, ◌*ℤ◌, int_le, int_lt};
-ghost use Rattle.std.specs.Float.Ieee.{eq, le, lt};
-ghost use Rattle.std.specs.Float.{inf};
+ghost use Rattle.std.specs.Prelude.{◌≡◌, ◌*◌, ◌&&◌, pos, ◌*ℤ◌};
+ghost use Rattle.std.specs.Float.Ieee.{eq};
 ghost use Rattle.std.specs.Float.Ieee.Scale.{finite};
-ghost use Rattle.float.specs.Order.{partial_order};
-ghost use Rattle.integer.specs.Fitted.{fitted, ordered};
 ghost use Rattle.bandwidth.specs.Rate as Rate;
 ghost use Rattle.bandwidth.specs.Size as Size;
 
 use duration::Duration;
-use float::{FloatAnswer, PartialOrdering};
-use integer::{IntegerAnswer, Ordering, UsizeAnswer};
+use refusal::Refusal;
+use std::ops::{Add, Div, Mul};
 
 // A data rate in bits per second. It is a float, so that repeated calculations keep their
-// fractions.
-#[derive(Clone, Copy)]
+// fractions. A NaN equals nothing and is in no order.
+#[derive(Clone, Copy, Debug, PartialEq, PartialOrd)]
 pub struct Bitrate {
     pub bps: f64,
 }
 
 // A data size in bytes.
-#[derive(Clone, Copy)]
+#[derive(Clone, Copy, Debug, PartialEq, Eq, PartialOrd, Ord)]
 pub struct DataSize {
     pub bytes: i64,
-}
-
-// A rate, and the number of the refusal: 0 if there is none, and rate 0.0 beside any other.
-#[derive(Clone, Copy)]
-pub struct RateAnswer {
-    pub rate: Bitrate,
-    pub refusal: u8,
-}
-
-// A size, and the number of the refusal: 0 if there is none, and size 0 beside any other.
-#[derive(Clone, Copy)]
-pub struct SizeAnswer {
-    pub size: DataSize,
-    pub refusal: u8,
-}
-
-impl RateAnswer {
-    pub const REFUSED: RateAnswer = RateAnswer {
-        rate: Bitrate { bps: 0.0 },
-        refusal: 7,
-    };
-}
-
-// Option<Bitrate>
-#[derive(Clone, Copy)]
-pub enum OptionBitrate {
-    Some(Bitrate),
-    None,
 }
 
 impl Bitrate {
@@ -63,22 +33,12 @@ impl Bitrate {
     };
     // 10^15 bit/s: the most that a setter takes, and the limit of products, sums and candidates.
     pub const MOST: Bitrate = Bitrate { bps: 1.0e15 };
+    // Useful as invalid values with comparison semantics.
+    pub const INFINITY: Bitrate = Bitrate { bps: f64::INFINITY };
 
-    // Bitrate::INFINITY: useful as an invalid value with comparison semantics.
-    pub fn infinity() -> Bitrate
-        ensures { result ≡ Rate.rate (inf false) }
-    {
-        let bps = float::infinity();
-        Bitrate { bps }
-    }
-
-    // Bitrate::NEG_INFINITY
-    pub fn neg_infinity() -> Bitrate
-        ensures { result ≡ Rate.rate (inf true) }
-    {
-        let bps = float::neg_infinity();
-        Bitrate { bps }
-    }
+    pub const NEG_INFINITY: Bitrate = Bitrate {
+        bps: f64::NEG_INFINITY,
+    };
 
     pub fn bps(bps: u64) -> Bitrate
         ensures { result ≡ Rate.nearest bps }
@@ -87,22 +47,28 @@ impl Bitrate {
         Bitrate { bps }
     }
 
-    pub fn kbps(kbps: u64) -> RateAnswer
+    #[tactic(auto, unfolding(crate::specs::Rate::whole_rate))]
+    pub fn kbps(kbps: u64) -> Result<Bitrate, Refusal>
         ensures { result ≡ Rate.whole_rate (kbps * 1000) }
     {
-        in_units(kbps, 1_000)
+        let bps = kbps.checked_mul(1_000).ok_or(Refusal::Arithmetic)?;
+        Ok(Bitrate::bps(bps))
     }
 
-    pub fn mbps(mbps: u64) -> RateAnswer
+    #[tactic(auto, unfolding(crate::specs::Rate::whole_rate))]
+    pub fn mbps(mbps: u64) -> Result<Bitrate, Refusal>
         ensures { result ≡ Rate.whole_rate (mbps * 1000000) }
     {
-        in_units(mbps, 1_000_000)
+        let bps = mbps.checked_mul(1_000_000).ok_or(Refusal::Arithmetic)?;
+        Ok(Bitrate::bps(bps))
     }
 
-    pub fn gbps(gbps: u64) -> RateAnswer
+    #[tactic(auto, unfolding(crate::specs::Rate::whole_rate))]
+    pub fn gbps(gbps: u64) -> Result<Bitrate, Refusal>
         ensures { result ≡ Rate.whole_rate (gbps * 1000000000) }
     {
-        in_units(gbps, 1_000_000_000)
+        let bps = gbps.checked_mul(1_000_000_000).ok_or(Refusal::Arithmetic)?;
+        Ok(Bitrate::bps(bps))
     }
 
     pub fn as_f64(self) -> f64
@@ -112,23 +78,22 @@ impl Bitrate {
     }
 
     // The bits per second rounded upwards, at most u64::MAX.
+    #[tactic(auto, unfolding(crate::specs::Rate::upwards))]
     pub fn as_u64(self) -> u64
         ensures { result ≡ Rate.upwards self }
     {
-        let up = float::ceil(self.bps);
-        float::as_u64(up)
+        float::as_u64(float::ceil(self.bps))
     }
 
-    pub fn clamp(self, min: Bitrate, max: Bitrate) -> RateAnswer
+    #[tactic(auto, unfolding(crate::specs::Rate::clamped))]
+    pub fn clamp(self, min: Bitrate, max: Bitrate) -> Result<Bitrate, Refusal>
         ensures { result ≡ Rate.clamped self min max }
     {
-        let within = float::clamp(self.bps, min.bps, max.bps);
-        RateAnswer {
-            rate: Bitrate { bps: within.value },
-            refusal: within.refusal,
-        }
+        let bps = float::clamp(self.bps, min.bps, max.bps)?;
+        Ok(Bitrate { bps })
     }
 
+    #[tactic(auto, unfolding(crate::specs::Rate::smaller))]
     pub fn min(self, other: Bitrate) -> Bitrate
         ensures { result ≡ Rate.smaller self other }
     {
@@ -136,6 +101,7 @@ impl Bitrate {
         Bitrate { bps }
     }
 
+    #[tactic(auto, unfolding(crate::specs::Rate::larger))]
     pub fn max(self, other: Bitrate) -> Bitrate
         ensures { result ≡ Rate.larger self other }
     {
@@ -149,97 +115,110 @@ impl Bitrate {
         float::is_finite(self.bps)
     }
 
-    pub fn as_valid(self) -> OptionBitrate
+    #[tactic(auto, unfolding(crate::specs::Rate::valid))]
+    pub fn as_valid(self) -> Option<Bitrate>
         ensures { result ≡ Rate.valid self }
     {
-        if self.is_valid() {
-            return OptionBitrate::Some(self);
-        }
-        OptionBitrate::None
+        self.is_valid().then_some(self)
     }
 
     pub fn is_zero(self) -> bool
         ensures { result ≡ eq self.bps (Rate.zero).bps }
     {
-        self.eq(Bitrate::ZERO)
+        self == Bitrate::ZERO
     }
 
-    // From<u64>
-    pub fn from_u64(value: u64) -> Bitrate
-        ensures { result ≡ Rate.nearest value }
+    // Sub: Rust asserts that the first is at least the second; here the rest is refused.
+    #[tactic(auto, unfolding(crate::specs::Rate::minus))]
+    pub fn sub(self, rhs: Bitrate) -> Result<Bitrate, Refusal>
+        ensures { result ≡ Rate.minus self rhs }
     {
+        if self.bps >= rhs.bps {
+            return Ok(Bitrate {
+                bps: self.bps - rhs.bps,
+            });
+        }
+        Err(Refusal::Arithmetic)
+    }
+
+    // What finite operands gave is at most MOST. An operand that is not finite stands for an absent
+    // rate, and what came of it stays.
+    #[tactic(auto, unfolding(crate::specs::Rate::limited))]
+    pub fn limited(self, operands_finite: bool) -> Bitrate
+        ensures { result ≡ Rate.limited operands_finite self }
+    {
+        if operands_finite && self.bps > Bitrate::MOST.bps {
+            return Bitrate::MOST;
+        }
+        self
+    }
+}
+
+impl From<u64> for Bitrate {
+    ghost from_gives = { λ value rate. rate ≡ Rate.nearest value };
+
+    fn from(value: u64) -> Bitrate {
         Bitrate::bps(value)
     }
+}
 
-    // From<f64>
-    pub fn from_f64(value: f64) -> Bitrate
-        ensures { result ≡ Rate.rate value }
-    {
+impl From<f64> for Bitrate {
+    ghost from_gives = { λ value rate. rate ≡ Rate.rate value };
+
+    fn from(value: f64) -> Bitrate {
         Bitrate { bps: value }
     }
+}
 
-    // Mul<Duration>: the bytes that this rate carries.
-    pub fn mul_duration(self, rhs: Duration) -> DataSize
-        ensures { result ≡ Rate.carried self rhs }
-    {
+// The bytes that this rate carries.
+impl Mul<Duration> for Bitrate {
+    type Output = DataSize;
+
+    ghost mul_gives = { λ rate d size. size ≡ Rate.carried rate d };
+
+    #[tactic(auto, unfolding(crate::specs::Rate::carried))]
+    fn mul(self, rhs: Duration) -> DataSize {
         let bits = self.bps * rhs.as_secs_f64();
         let bytes = bits / 8.0;
-        let rounded = float::round(bytes);
-        DataSize::bytes(float::as_i64(rounded))
+        DataSize::bytes(float::as_i64(float::round(bytes)))
     }
+}
 
-    // Mul<f64>
-    pub fn mul_f64(self, rhs: f64) -> Bitrate
-        ensures { result ≡ Rate.times self rhs }
-    {
+impl Mul<f64> for Bitrate {
+    type Output = Bitrate;
+
+    ghost mul_gives = { λ rate x product. product ≡ Rate.times rate x };
+
+    #[tactic(auto, unfolding(crate::specs::Rate::times))]
+    fn mul(self, rhs: f64) -> Bitrate {
         let product = Bitrate {
             bps: self.bps * rhs,
         };
         product.limited(are_finite(self.bps, rhs))
     }
+}
 
-    // Sub: Rust asserts that the first is at least the second; here the rest is refusal 7.
-    pub fn sub(self, rhs: Bitrate) -> RateAnswer
-        ensures { result ≡ Rate.minus self rhs }
-    {
-        if self.bps >= rhs.bps {
-            return RateAnswer {
-                rate: Bitrate {
-                    bps: self.bps - rhs.bps,
-                },
-                refusal: 0,
-            };
-        }
-        RateAnswer::REFUSED
-    }
+impl Add for Bitrate {
+    type Output = Bitrate;
 
-    // Add
-    pub fn add(self, rhs: Bitrate) -> Bitrate
-        ensures { result ≡ Rate.plus self rhs }
-    {
+    ghost add_gives = { λ a b sum. sum ≡ Rate.plus a b };
+
+    #[tactic(auto, unfolding(crate::specs::Rate::plus))]
+    fn add(self, rhs: Bitrate) -> Bitrate {
         let sum = Bitrate {
             bps: self.bps + rhs.bps,
         };
         sum.limited(are_finite(self.bps, rhs.bps))
     }
+}
 
-    // What finite operands gave is at most MOST. An operand that is not finite stands for an absent
-    // rate, and what came of it stays.
-    pub fn limited(self, operands_finite: bool) -> Bitrate
-        ensures { result ≡ Rate.limited operands_finite self }
-    {
-        if operands_finite {
-            if self.bps > Bitrate::MOST.bps {
-                return Bitrate::MOST;
-            }
-        }
-        self
-    }
+impl Div<f64> for Bitrate {
+    type Output = Bitrate;
 
-    // Div<f64>
-    pub fn div_f64(self, rhs: f64) -> Bitrate
-        ensures { result ≡ Rate.over self rhs }
-    {
+    ghost div_gives = { λ rate x quotient. quotient ≡ Rate.over rate x };
+
+    #[tactic(auto, unfolding(crate::specs::Rate::over))]
+    fn div(self, rhs: f64) -> Bitrate {
         if rhs == 0.0 {
             return Bitrate::ZERO;
         }
@@ -247,68 +226,16 @@ impl Bitrate {
             bps: self.bps / rhs,
         }
     }
-
-    // PartialEq and PartialOrd: a NaN equals nothing and is in no order.
-    pub fn eq(self, other: Bitrate) -> bool
-        ensures { result ≡ eq self.bps other.bps }
-    {
-        self.bps == other.bps
-    }
-
-    pub fn partial_cmp(self, other: Bitrate) -> PartialOrdering
-        ensures { result ≡ partial_order self.bps other.bps }
-    {
-        float::partial_cmp(self.bps, other.bps)
-    }
-
-    pub fn lt(self, other: Bitrate) -> bool
-        ensures { result ≡ lt self.bps other.bps }
-    {
-        self.bps < other.bps
-    }
-
-    pub fn le(self, other: Bitrate) -> bool
-        ensures { result ≡ le self.bps other.bps }
-    {
-        self.bps <= other.bps
-    }
-
-    pub fn gt(self, other: Bitrate) -> bool
-        ensures { result ≡ lt other.bps self.bps }
-    {
-        self.bps > other.bps
-    }
-
-    pub fn ge(self, other: Bitrate) -> bool
-        ensures { result ≡ le other.bps self.bps }
-    {
-        self.bps >= other.bps
-    }
 }
 
 fn are_finite(a: f64, b: f64) -> bool
     ensures { result ≡ (finite a && finite b) }
 {
-    if float::is_finite(a) {
-        return float::is_finite(b);
-    }
-    false
-}
-
-// n units as a rate, where that is a whole number that fits a u64.
-fn in_units(n: u64, unit: u64) -> RateAnswer
-    requires { 0 < unit }
-    ensures { result ≡ Rate.whole_rate (n * unit) }
-{
-    if n <= u64::MAX / unit {
-        let rate = Bitrate::bps(n * unit);
-        return RateAnswer { rate, refusal: 0 };
-    }
-    RateAnswer::REFUSED
+    float::is_finite(a) && float::is_finite(b)
 }
 
 // 2^53: up to it each whole number is a float.
-const MOST_EXACT: i64 = 9_007_199_254_740_992;
+const MOST_EXACT: u64 = 9_007_199_254_740_992;
 
 impl DataSize {
     pub const ZERO: DataSize = DataSize { bytes: 0 };
@@ -319,41 +246,40 @@ impl DataSize {
         DataSize { bytes }
     }
 
-    pub fn kbytes(kbytes: i64) -> SizeAnswer
+    pub fn kbytes(kbytes: i64) -> Result<DataSize, Refusal>
         ensures { result ≡ Size.fitted (kbytes *ℤ pos 1024) }
     {
-        sized(integer::checked_mul(kbytes, 1_024))
+        let bytes = integer::checked_mul(kbytes, 1_024)?;
+        Ok(DataSize { bytes })
     }
 
-    pub fn mbytes(mbytes: i64) -> SizeAnswer
+    pub fn mbytes(mbytes: i64) -> Result<DataSize, Refusal>
         ensures { result ≡ Size.fitted (mbytes *ℤ pos 1048576) }
     {
-        sized(integer::checked_mul(mbytes, 1_048_576))
+        let bytes = integer::checked_mul(mbytes, 1_048_576)?;
+        Ok(DataSize { bytes })
     }
 
-    pub fn gbytes(gbytes: i64) -> SizeAnswer
+    pub fn gbytes(gbytes: i64) -> Result<DataSize, Refusal>
         ensures { result ≡ Size.fitted (gbytes *ℤ pos 1073741824) }
     {
-        sized(integer::checked_mul(gbytes, 1_073_741_824))
+        let bytes = integer::checked_mul(gbytes, 1_073_741_824)?;
+        Ok(DataSize { bytes })
     }
 
     // The bytes as a float, where it holds the number whatever it is: up to 2^53 in magnitude.
-    pub fn as_bytes_f64(self) -> FloatAnswer
+    #[tactic(auto, using(crate::proofs::Exact::exact, crate::proofs::Exact::inexact), unfolding(crate::specs::Size::float))]
+    pub fn as_bytes_f64(self) -> Result<f64, Refusal>
         ensures { result ≡ Size.float self }
     {
-        let bytes = self.bytes;
-        if bytes <= MOST_EXACT {
-            if bytes >= -9_007_199_254_740_992 {
-                return FloatAnswer {
-                    value: bytes as f64,
-                    refusal: 0,
-                };
-            }
+        if self.bytes.unsigned_abs() <= MOST_EXACT {
+            return Ok(self.bytes as f64);
         }
-        FloatAnswer::REFUSED
+        Err(Refusal::Arithmetic)
     }
 
-    pub fn as_bytes_usize(self) -> UsizeAnswer
+    #[tactic(auto, unfolding(crate::specs::Size::unsigned))]
+    pub fn as_bytes_usize(self) -> Result<usize, Refusal>
         ensures { result ≡ Size.unsigned self }
     {
         integer::to_usize(self.bytes)
@@ -366,181 +292,106 @@ impl DataSize {
     }
 
     // Subtract, at least zero.
-    pub fn saturating_sub(self, rhs: DataSize) -> SizeAnswer
+    #[tactic(auto, unfolding(crate::specs::Size::saturating_minus))]
+    pub fn saturating_sub(self, rhs: DataSize) -> Result<DataSize, Refusal>
         ensures { result ≡ Size.saturating_minus self rhs }
     {
-        let rest = integer::checked_sub(self.bytes, rhs.bytes);
-        SizeAnswer {
-            size: DataSize {
-                bytes: integer::max(rest.value, 0),
-            },
-            refusal: rest.refusal,
-        }
+        let rest = self.sub(rhs)?;
+        Ok(DataSize {
+            bytes: rest.bytes.max(0),
+        })
     }
 
-    pub fn as_kb(self) -> FloatAnswer
+    #[tactic(auto, unfolding(crate::specs::Size::kilobytes))]
+    pub fn as_kb(self) -> Result<f64, Refusal>
         ensures { result ≡ Size.kilobytes self }
     {
-        let bytes = self.as_bytes_f64();
-        let refusal = bytes.refusal;
-        if refusal != 0 {
-            return bytes;
-        }
-        FloatAnswer {
-            value: bytes.value / 1000.0,
-            refusal: 0,
-        }
-    }
-
-    // From<usize>
-    pub fn from_usize(value: usize) -> SizeAnswer
-        ensures { result ≡ Size.fitted (pos value) }
-    {
-        sized(integer::from_u64(value as u64))
-    }
-
-    // From<u8>
-    pub fn from_u8(value: u8) -> DataSize
-        ensures { result ≡ Size.size (pos value) }
-    {
-        DataSize {
-            bytes: value as i64,
-        }
+        let bytes = self.as_bytes_f64()?;
+        Ok(bytes / 1000.0)
     }
 
     // Div<Duration>: the rate at which this size takes that long.
-    pub fn div_duration(self, rhs: Duration) -> RateAnswer
+    #[tactic(auto, unfolding(crate::specs::Size::over))]
+    pub fn div_duration(self, rhs: Duration) -> Result<Bitrate, Refusal>
         ensures { result ≡ Size.over self rhs }
     {
         self.over_seconds(rhs.as_secs_f64())
     }
 
     // What Div<Duration> and Div<TimeDelta> share: this size over so many seconds.
-    pub fn over_seconds(self, s: f64) -> RateAnswer
+    pub fn over_seconds(self, s: f64) -> Result<Bitrate, Refusal>
         ensures { result ≡ Size.over_seconds self s }
     {
-        let bytes = self.as_bytes_f64();
-        let refusal = bytes.refusal;
-        if refusal != 0 {
-            return RateAnswer::REFUSED;
-        }
-        if s == 0.0 {
-            return RateAnswer {
-                rate: Bitrate::ZERO,
-                refusal: 0,
-            };
-        }
-        let bps = (bytes.value * 8.0) / s;
-        RateAnswer {
-            rate: Bitrate { bps },
-            refusal: 0,
-        }
+        let bytes = self.as_bytes_f64()?;
+        Ok(Bitrate { bps: bytes * 8.0 } / s)
     }
 
     // Mul<i64>, whose answer is a number of bytes and no DataSize.
-    pub fn mul_i64(self, rhs: i64) -> IntegerAnswer
+    #[tactic(auto, unfolding(crate::specs::Size::times_signed))]
+    pub fn mul_i64(self, rhs: i64) -> Result<i64, Refusal>
         ensures { result ≡ Size.times_signed self rhs }
     {
         integer::checked_mul(self.bytes, rhs)
     }
 
     // Mul<u64>: a factor above i64::MAX is refused, where Rust wraps it.
-    pub fn mul_u64(self, rhs: u64) -> SizeAnswer
+    #[tactic(auto, unfolding(crate::specs::Size::times_unsigned))]
+    pub fn mul_u64(self, rhs: u64) -> Result<DataSize, Refusal>
         ensures { result ≡ Size.times_unsigned self rhs }
     {
-        let factor = integer::from_u64(rhs);
-        let refusal = factor.refusal;
-        if refusal != 0 {
-            return sized(factor);
-        }
-        sized(integer::checked_mul(self.bytes, factor.value))
+        let factor = integer::from_u64(rhs)?;
+        let bytes = integer::checked_mul(self.bytes, factor)?;
+        Ok(DataSize { bytes })
     }
 
     // Sub and SubAssign
-    pub fn sub(self, rhs: DataSize) -> SizeAnswer
+    #[tactic(auto, unfolding(crate::specs::Size::minus))]
+    pub fn sub(self, rhs: DataSize) -> Result<DataSize, Refusal>
         ensures { result ≡ Size.minus self rhs }
     {
-        sized(integer::checked_sub(self.bytes, rhs.bytes))
+        let bytes = integer::checked_sub(self.bytes, rhs.bytes)?;
+        Ok(DataSize { bytes })
     }
 
     // Add and AddAssign
-    pub fn add(self, rhs: DataSize) -> SizeAnswer
+    #[tactic(auto, unfolding(crate::specs::Size::plus))]
+    pub fn add(self, rhs: DataSize) -> Result<DataSize, Refusal>
         ensures { result ≡ Size.plus self rhs }
     {
-        sized(integer::checked_add(self.bytes, rhs.bytes))
+        let bytes = integer::checked_add(self.bytes, rhs.bytes)?;
+        Ok(DataSize { bytes })
     }
 
     // Sum: refused at the first partial sum that fits no size.
-    pub fn sum(sizes: &[i64]) -> SizeAnswer
+    #[tactic(auto, unfolding(crate::specs::Size::total))]
+    pub fn sum(sizes: &[i64]) -> Result<DataSize, Refusal>
         ensures { result ≡ Size.total sizes.now }
     {
-        let mut sum = SizeAnswer {
-            size: DataSize::ZERO,
-            refusal: 0,
-        };
-        let mut i = 0;
-        while i < sizes.len() {
-            sum = add_to(sum, sizes[i]);
-            i += 1;
+        let mut sum = DataSize::ZERO;
+        for bytes in sizes {
+            sum = sum.add(DataSize::bytes(*bytes))?;
         }
-        sum
-    }
-
-    // PartialEq and Ord
-    pub fn eq(self, other: DataSize) -> bool
-        ensures { result ≡ Size.equal self other }
-    {
-        self.bytes == other.bytes
-    }
-
-    pub fn cmp(self, other: DataSize) -> Ordering
-        ensures { result ≡ ordered self.bytes other.bytes }
-    {
-        integer::compare(self.bytes, other.bytes)
-    }
-
-    pub fn lt(self, other: DataSize) -> bool
-        ensures { result ≡ int_lt self.bytes other.bytes }
-    {
-        self.bytes < other.bytes
-    }
-
-    pub fn le(self, other: DataSize) -> bool
-        ensures { result ≡ int_le self.bytes other.bytes }
-    {
-        self.bytes <= other.bytes
-    }
-
-    pub fn gt(self, other: DataSize) -> bool
-        ensures { result ≡ int_lt other.bytes self.bytes }
-    {
-        self.bytes > other.bytes
-    }
-
-    pub fn ge(self, other: DataSize) -> bool
-        ensures { result ≡ int_le other.bytes self.bytes }
-    {
-        self.bytes >= other.bytes
+        Ok(sum)
     }
 }
 
-fn sized(bytes: IntegerAnswer) -> SizeAnswer
-    ensures { result ≡ Size.sized bytes }
-{
-    SizeAnswer {
-        size: DataSize { bytes: bytes.value },
-        refusal: bytes.refusal,
+impl TryFrom<usize> for DataSize {
+    type Error = Refusal;
+
+    ghost try_from_gives = { λ value size. size ≡ Size.fitted (pos value) };
+
+    fn try_from(value: usize) -> Result<DataSize, Refusal> {
+        let bytes = integer::from_u64(value as u64)?;
+        Ok(DataSize { bytes })
     }
 }
 
-// One more size in the sum. Once refused, it stays refused.
-fn add_to(sum: SizeAnswer, bytes: i64) -> SizeAnswer
-    ensures { result ≡ Size.add_to sum bytes }
-{
-    let refusal = sum.refusal;
-    if refusal != 0 {
-        return sum;
+impl From<u8> for DataSize {
+    ghost from_gives = { λ value size. size ≡ Size.size (pos value) };
+
+    fn from(value: u8) -> DataSize {
+        DataSize {
+            bytes: value as i64,
+        }
     }
-    let size = sum.size;
-    size.add(DataSize::bytes(bytes))
 }

@@ -10,11 +10,11 @@ use lib.Dec.{eqb}
 use lib.ListN.{length, get_or, drop, length-take, length-drop}
 use lib.Seq.{get_or-take, get_or-drop}
 use Rattle.call_line.specs.declared.Call.{Call}
-use Rattle.call_line.specs.declared.Line.TheVariants.{Taken, Refused}
-use Rattle.call_line.specs.declared.Number.TheVariants.{Wrong}
-use Rattle.call_line.specs.declared.Fields.TheVariants.{Unreadable}
+use Rattle.refusal.specs.declared.Refusal.TheVariants.{NotInShape}
+use Rattle.call_line.specs.declared.LineRefusal.TheVariants.{Other}
+use Rattle.std.proofs.Common.{None, Ok, Err}
 use Rattle.call_line.specs.Column.{is_digit, digits_of, leading_spaces, column_of, start, total, cut}
-use Rattle.call_line.specs.Line.{wide, narrow, Four, fields_in, fields_of, checked, line_of}
+use Rattle.call_line.specs.Line.{wide, narrow, Four, fields_in, fields_of, said, line_of}
 use Rattle.call_line.proofs.Reading.{no_digit}
 use Rattle.call_line.proofs.Columns.{wrong_column, Shape, wide_shape, narrow_shape, other_width, Told, is_wide, is_narrow, other, told_by_length}
 
@@ -27,15 +27,15 @@ unfolding is_digit
 not_digit b e = rw e
 
 -- a column with one in it
-column_wrong : (s : List ℕ) (j : ℕ) → j < length s → get_or s j 0 ≡ 10 → column_of s ≡ Wrong
+column_wrong : (s : List ℕ) (j : ℕ) → j < length s → get_or s j 0 ≡ 10 → column_of s ≡ None
 unfolding column_of leading_spaces
 column_wrong [] j h e = absurd (omega arith)
 column_wrong (b ∷ s) j h e = pick (column_wrong s) (eqb b 32) refl j h e
   where
     pick :
-        ((k : ℕ) → k < length s → get_or s k 0 ≡ 10 → column_of s ≡ Wrong) → (t : Bool) → eqb b 32 ≡ t
+        ((k : ℕ) → k < length s → get_or s k 0 ≡ 10 → column_of s ≡ None) → (t : Bool) → eqb b 32 ≡ t
         → (k : ℕ) → k < suc (length s) → get_or (b ∷ s) k 0 ≡ 10
-        → digits_of (drop (cond t (suc (leading_spaces s)) 0) (b ∷ s)) ≡ Wrong
+        → digits_of (drop (cond t (suc (leading_spaces s)) 0) (b ∷ s)) ≡ None
     pick ih true q zero l z = let p : b ≡ 32 = eqb-true b 32 q in absurd (omega arith)
     pick ih true q (suc k) l z = ih k (omega arith) z
     pick ih false q k l z = no_digit (b ∷ s) k l (not_digit (get_or (b ∷ s) k 0) z)
@@ -56,10 +56,10 @@ find (w ∷ ws) j h = pick (find ws) (dec_lt j w)
     pick ih (no n) = next (j - w) (omega (arith, n)) (ih (j - w) (omega (arith, n))) refl
 
 -- a line with one in it
-unreadable : (ws : List ℕ) → Four ws → (s : List ℕ) → length s ≡ total ws → (j : ℕ) → j < length s → get_or s j 0 ≡ 10 → fields_in ws s ≡ Unreadable
+unreadable : (ws : List ℕ) → Four ws → (s : List ℕ) → length s ≡ total ws → (j : ℕ) → j < length s → get_or s j 0 ≡ 10 → fields_in ws s ≡ None
 unreadable ws w s l j h e = inside (find ws j (omega arith))
   where
-    inside : In ws j → fields_in ws s ≡ Unreadable
+    inside : In ws j → fields_in ws s ≡ None
     inside (column k m a b) =
         let p : j ≡ start ws k + (j - start ws k) = omega arith in
         let i : j - start ws k < get_or ws k 0 = omega arith in
@@ -71,24 +71,21 @@ unreadable ws w s l j h e = inside (find ws j (omega arith))
         let y : j - start ws k < length (cut ws k s) = simp (length-take, length-drop) (omega arith) in
         wrong_column ws s k (omega (arith, w.long)) (column_wrong (cut ws k s) (j - start ws k) y z)
 
-not_read : (s : List ℕ) (j : ℕ) → j < length s → get_or s j 0 ≡ 10 → fields_of s ≡ Unreadable
+not_read : (s : List ℕ) (j : ℕ) → j < length s → get_or s j 0 ≡ 10 → fields_of s ≡ None
 not_read s j h e = pick (told_by_length s)
   where
-    in_shape : (ws : List ℕ) → Shape ws → length s ≡ total ws → fields_of s ≡ Unreadable
+    in_shape : (ws : List ℕ) → Shape ws → length s ≡ total ws → fields_of s ≡ None
     in_shape ws w l = w.told s l ∙ unreadable ws w.columns s l j h e
 
-    pick : Told s → fields_of s ≡ Unreadable
+    pick : Told s → fields_of s ≡ None
     pick (is_wide l) = in_shape wide wide_shape l
     pick (is_narrow l) = in_shape narrow narrow_shape l
     pick (other u) = u
 
-pub taken_clear : (s : List ℕ) (call : Call) → line_of s ≡ Taken call → Clear s
-unfolding line_of checked
-taken_clear s call e j h z =
-    let q : checked (fields_of s) ≡ Refused 1 = ap checked (not_read s j h z) in
-    let r : ◌≡◌ {A = ℕ} 0 1 = cc in
-    omega arith
+pub taken_clear : (s : List ℕ) (call : Call) → line_of s ≡ Ok call → Clear s
+unfolding line_of said
+taken_clear s call e j h z = let q : said (fields_of s) ≡ Err (Other NotInShape) = ap said (not_read s j h z) in cc
 
-pub other_length : (s : List ℕ) → (length s ≡ total wide → ⊥) → (length s ≡ total narrow → ⊥) → line_of s ≡ Refused 1
-unfolding line_of checked
-other_length s w n = ap checked (other_width s w n)
+pub other_length : (s : List ℕ) → (length s ≡ total wide → ⊥) → (length s ≡ total narrow → ⊥) → line_of s ≡ Err (Other NotInShape)
+unfolding line_of said
+other_length s w n = ap said (other_width s w n)

@@ -11,11 +11,9 @@ use borrow.Author.Tests.{eq-eqb, ne_eqb, eqb-true, eqb-false}
 use lib.Dec.{eqb, lit<}
 use lib.ListN.{length, get_or, take, drop, set}
 use lib.Seq.{drop-cons, get_or-set_same, get_or-set_other}
-use Rattle.call_line.specs.declared.Number.{Number}
-use Rattle.call_line.specs.declared.Number.TheVariants.{Value, Wrong}
-use Rattle.call_line.specs.declared.Fields.TheVariants.{Read, Unreadable}
+use Rattle.std.proofs.Common.{Option, Some, None}
 use Rattle.call_line.specs.Column.{ascii_space, digits_of, leading_spaces, column_of, start, total, cut}
-use Rattle.call_line.specs.Line.{wide, narrow, Four, four, fields_in, fields_of}
+use Rattle.call_line.specs.Line.{wide, narrow, Four, four, fields_in, fields_of, fields}
 
 -- ---- where columns start
 
@@ -56,7 +54,7 @@ module _ (s : List ℕ) (from to : ℕ) (h : to ≤ length s) (l : from < to) wh
   at_other n = rw part_cons (simp (ne_eqb _ _ n))
 
   -- nothing but spaces
-  pub blank : get_or s from 0 ≡ ascii_space → from + 1 ≡ to → column_of (part from to s) ≡ Wrong
+  pub blank : get_or s from 0 ≡ ascii_space → from + 1 ≡ to → column_of (part from to s) ≡ None
   unfolding column_of leading_spaces digits_of
   blank e q = let z : to - (from + 1) ≡ 0 = omega arith in at_space e ∙ rw z
 
@@ -68,26 +66,26 @@ cut_part ws s k from e =
     let w : get_or ws k 0 ≡ from + get_or ws k 0 - from = omega arith in
     ap (λ (j : ℕ). take (get_or ws k 0) (drop j s)) (sym e) ∙ ap (λ (j : ℕ). take j (drop from s)) w
 
-four_1 : (a b c : Number) → four a Wrong b c ≡ Unreadable
+four_1 : (a b c : Option ℕ) → four a None b c ≡ None
 unfolding four
-four_1 (Value n) b c = refl
-four_1 Wrong b c = refl
+four_1 (Some n) b c = refl
+four_1 None b c = refl
 
-four_2 : (a b c : Number) → four a b Wrong c ≡ Unreadable
+four_2 : (a b c : Option ℕ) → four a b None c ≡ None
 unfolding four
-four_2 (Value n) (Value m) c = refl
-four_2 (Value n) Wrong c = refl
-four_2 Wrong b c = refl
+four_2 (Some n) (Some m) c = refl
+four_2 (Some n) None c = refl
+four_2 None b c = refl
 
-four_3 : (a b c : Number) → four a b c Wrong ≡ Unreadable
+four_3 : (a b c : Option ℕ) → four a b c None ≡ None
 unfolding four
-four_3 (Value n) (Value m) (Value k) = refl
-four_3 (Value n) (Value m) Wrong = refl
-four_3 (Value n) Wrong c = refl
-four_3 Wrong b c = refl
+four_3 (Some n) (Some m) (Some k) = refl
+four_3 (Some n) (Some m) None = refl
+four_3 (Some n) None c = refl
+four_3 None b c = refl
 
 module _ (ws s : List ℕ) where
-  pub wrong_column : (k : ℕ) → k < 4 → column_of (cut ws k s) ≡ Wrong → fields_in ws s ≡ Unreadable
+  pub wrong_column : (k : ℕ) → k < 4 → column_of (cut ws k s) ≡ None → fields_in ws s ≡ None
   unfolding fields_in four
   wrong_column zero h w = simp w
   wrong_column (suc zero) h w = simp (w, four_1)
@@ -96,19 +94,19 @@ module _ (ws s : List ℕ) where
   wrong_column (suc (suc (suc (suc k)))) h w = absurd (omega arith)
 
   pub right_columns :
-      (v : List ℕ) → ((j : ℕ) → j < 4 → column_of (cut ws j s) ≡ Value (get_or v j 0))
-      → fields_in ws s ≡ Read (get_or v 0 0) (get_or v 1 0) (get_or v 2 0) (get_or v 3 0)
+      (v : List ℕ) → ((j : ℕ) → j < 4 → column_of (cut ws j s) ≡ Some (get_or v j 0))
+      → fields_in ws s ≡ Some (fields v)
   unfolding fields_in four
   right_columns v h = simp (h 0 (omega arith), h 1 (omega arith), h 2 (omega arith), h 3 (omega arith))
 
   -- one more column is stored
   pub one_more :
       (v : List ℕ) (k n : ℕ) → k < length v
-      → ((j : ℕ) → j < k → column_of (cut ws j s) ≡ Value (get_or v j 0)) → column_of (cut ws k s) ≡ Value n
-      → (j : ℕ) → j < k + 1 → column_of (cut ws j s) ≡ Value (get_or (set v k n) j 0)
+      → ((j : ℕ) → j < k → column_of (cut ws j s) ≡ Some (get_or v j 0)) → column_of (cut ws k s) ≡ Some n
+      → (j : ℕ) → j < k + 1 → column_of (cut ws j s) ≡ Some (get_or (set v k n) j 0)
   one_more v k n l h e j u = pick (dec_lt j k)
     where
-      pick : Dec (j < k) → column_of (cut ws j s) ≡ Value (get_or (set v k n) j 0)
+      pick : Dec (j < k) → column_of (cut ws j s) ≡ Some (get_or (set v k n) j 0)
       pick (yes p) = rw (get_or-set_other v k j n 0 (λ q. omega arith)) (h j p)
       pick (no m) = let q : j ≡ k = omega (arith, m) in rw (q, get_or-set_same v k n 0) e
 
@@ -141,7 +139,7 @@ narrow_shape =
       told = λ s e. simp (ne_eqb (length s) (total wide) (λ w. omega arith), eq-eqb _ _ e);
     }
 
-pub other_width : (s : List ℕ) → (length s ≡ total wide → ⊥) → (length s ≡ total narrow → ⊥) → fields_of s ≡ Unreadable
+pub other_width : (s : List ℕ) → (length s ≡ total wide → ⊥) → (length s ≡ total narrow → ⊥) → fields_of s ≡ None
 unfolding fields_of
 other_width s w n = simp (ne_eqb _ _ w, ne_eqb _ _ n)
 
@@ -149,7 +147,7 @@ other_width s w n = simp (ne_eqb _ _ w, ne_eqb _ _ n)
 pub data Told (s : List ℕ) : Type 0 where
   is_wide : length s ≡ total wide → Told s
   is_narrow : length s ≡ total narrow → Told s
-  other : fields_of s ≡ Unreadable → Told s
+  other : fields_of s ≡ None → Told s
 
 pub told_by_length : (s : List ℕ) → Told s
 told_by_length s = pick (eqb (length s) (total wide)) (eqb (length s) (total narrow)) refl refl

@@ -11,17 +11,17 @@ use lib.Dec.{eqb, leb, ltb, lit<}
 use lib.ListN.{length, get_or, drop, drop_of_length-le}
 use lib.Seq.{drop-cons}
 use Rattle.float.proofs.Both.{both}
-use Rattle.call_line.specs.declared.Number.TheVariants.{Value, Wrong}
+use Rattle.std.proofs.Common.{Option, Some, None}
 use Rattle.call_line.specs.Column.{ascii_nine, ascii_zero, is_digit, more, after_zero, digits_of}
 
 -- ---- the digits
 
-pub no_digits : (s : List ℕ) → length s ≡ 0 → digits_of s ≡ Wrong
+pub no_digits : (s : List ℕ) → length s ≡ 0 → digits_of s ≡ None
 unfolding digits_of
 no_digits [] e = refl
 no_digits (b ∷ s) e = absurd (omega arith)
 
-pub leading_zero : (s : List ℕ) → get_or s 0 0 ≡ ascii_zero → 1 < length s → digits_of s ≡ Wrong
+pub leading_zero : (s : List ℕ) → get_or s 0 0 ≡ ascii_zero → 1 < length s → digits_of s ≡ None
 unfolding digits_of after_zero
 leading_zero [] e l = absurd (omega arith)
 leading_zero (b ∷ []) e l = absurd (omega arith)
@@ -33,7 +33,7 @@ unfolding digits_of after_zero is_digit more
 one_digit [] e = absurd (omega arith)
 one_digit (b ∷ []) e = pick (eqb b ascii_zero) refl
   where
-    pick : (t : Bool) → eqb b ascii_zero ≡ t → cond t (Value 0) (more 0 (b ∷ [])) ≡ more 0 (b ∷ [])
+    pick : (t : Bool) → eqb b ascii_zero ≡ t → cond t (Some 0) (more 0 (b ∷ [])) ≡ more 0 (b ∷ [])
     pick true q = rw (eqb-true b ascii_zero q)
     pick false q = refl
 one_digit (b ∷ d ∷ s) e = absurd (omega arith)
@@ -43,7 +43,7 @@ unfolding digits_of
 no_leading_zero [] m n = absurd (m refl)
 no_leading_zero (b ∷ s) m n = simp (ne_eqb _ _ n)
 
-pub more_end : (s : List ℕ) (i v : ℕ) → length s ≤ i → more v (drop i s) ≡ Value v
+pub more_end : (s : List ℕ) (i v : ℕ) → length s ≤ i → more v (drop i s) ≡ Some v
 unfolding more
 more_end s i v h = simp (drop_of_length-le s h)
 
@@ -62,7 +62,7 @@ digits_fit i v b u f d =
     (rw (add-one i) w, omega arith)
 
 module _ (s : List ℕ) (i v : ℕ) (h : i < length s) (d : is_digit (get_or s i 0) ≡ true) where
-  pub more_over : 2 ^ 64 ≤ v * 10 + (get_or s i 0 - ascii_zero) → more v (drop i s) ≡ Wrong
+  pub more_over : 2 ^ 64 ≤ v * 10 + (get_or s i 0 - ascii_zero) → more v (drop i s) ≡ None
   unfolding more
   more_over l = rw (drop-cons s i 0) (simp (d, le-ltb _ _ l))
 
@@ -72,17 +72,17 @@ module _ (s : List ℕ) (i v : ℕ) (h : i < length s) (d : is_digit (get_or s i
 
 -- ---- a byte that is no digit
 
-wrong_either : (t : Bool) → cond t Wrong Wrong ≡ Wrong
+wrong_either : (t : Bool) → ◌≡◌ {A = Option ℕ} (cond t None None) None
 wrong_either true = refl
 wrong_either false = refl
 
-more_wrong : (v : ℕ) (s : List ℕ) (i : ℕ) → i < length s → is_digit (get_or s i 0) ≡ false → more v s ≡ Wrong
+more_wrong : (v : ℕ) (s : List ℕ) (i : ℕ) → i < length s → is_digit (get_or s i 0) ≡ false → more v s ≡ None
 unfolding more
 more_wrong v [] i h o = absurd (omega arith)
 more_wrong v (b ∷ s) zero h o = simp o
 more_wrong v (b ∷ s) (suc i) h o = simp (more_wrong (v * 10 + (b - ascii_zero)) s i (omega arith) o, wrong_either)
 
-not_alone : (s : List ℕ) (i : ℕ) → i < length s → after_zero s ≡ Wrong
+not_alone : (s : List ℕ) (i : ℕ) → i < length s → after_zero s ≡ None
 unfolding after_zero
 not_alone [] i h = absurd (omega arith)
 not_alone (x ∷ s) i h = refl
@@ -91,7 +91,7 @@ not_zero : (b : ℕ) → is_digit b ≡ false → b ≡ ascii_zero → ⊥
 unfolding is_digit
 not_zero b o e = true≢false (rw e at o)
 
-pub no_digit : (s : List ℕ) (i : ℕ) → i < length s → is_digit (get_or s i 0) ≡ false → digits_of s ≡ Wrong
+pub no_digit : (s : List ℕ) (i : ℕ) → i < length s → is_digit (get_or s i 0) ≡ false → digits_of s ≡ None
 unfolding digits_of
 no_digit [] i h o = absurd (omega arith)
 no_digit (b ∷ s) zero h o = simp (ne_eqb _ _ (not_zero b o), more_wrong 0 (b ∷ s) 0 h o)
@@ -103,29 +103,29 @@ no_digit (b ∷ s) (suc i) h o =
 -- wrong with the next digit
 more_ahead :
     (v b : ℕ) (s : List ℕ)
-    → (is_digit b ≡ true → v * 10 + (b - ascii_zero) < 2 ^ 64 → more (v * 10 + (b - ascii_zero)) s ≡ Wrong) → more v (b ∷ s) ≡ Wrong
+    → (is_digit b ≡ true → v * 10 + (b - ascii_zero) < 2 ^ 64 → more (v * 10 + (b - ascii_zero)) s ≡ None) → more v (b ∷ s) ≡ None
 unfolding more
 more_ahead v b s h = pick (is_digit b && ltb (v * 10 + (b - ascii_zero)) (2 ^ 64)) refl
   where
     pick :
-        (t : Bool) → (is_digit b && ltb (v * 10 + (b - ascii_zero)) (2 ^ 64)) ≡ t → cond t (more (v * 10 + (b - ascii_zero)) s) Wrong ≡ Wrong
+        (t : Bool) → (is_digit b && ltb (v * 10 + (b - ascii_zero)) (2 ^ 64)) ≡ t → cond t (more (v * 10 + (b - ascii_zero)) s) None ≡ None
     pick true e = let d = both (is_digit b) (ltb (v * 10 + (b - ascii_zero)) (2 ^ 64)) e in h d.0 (ltb-true _ _ d.1)
     pick false e = refl
 
 -- v has more digits than k, and with those of s more than 20
-more_many : (s : List ℕ) (k v : ℕ) → 10 ^ k ≤ v → v < 2 ^ 64 → 20 ≤ k + length s → more v s ≡ Wrong
+more_many : (s : List ℕ) (k v : ℕ) → 10 ^ k ≤ v → v < 2 ^ 64 → 20 ≤ k + length s → more v s ≡ None
 more_many [] k v l u n =
     let m : 10 ^ 20 ≤ 10 ^ k = pow-le-pow_right (lit< tt) {i = 20} (omega arith) in
     absurd (omega arith)
 more_many (b ∷ s) k v l u n =
     more_ahead v b s (λ d f. more_many s (suc k) (v * 10 + (b - ascii_zero)) (omega (arith, pow-suc 10 k)) f (omega arith))
 
-pub too_many : (s : List ℕ) → 20 < length s → digits_of s ≡ Wrong
+pub too_many : (s : List ℕ) → 20 < length s → digits_of s ≡ None
 unfolding digits_of
 too_many [] l = absurd (omega arith)
 too_many (b ∷ s) l = pick (eqb b ascii_zero) refl
   where
-    pick : (t : Bool) → eqb b ascii_zero ≡ t → cond t (after_zero s) (more 0 (b ∷ s)) ≡ Wrong
+    pick : (t : Bool) → eqb b ascii_zero ≡ t → cond t (after_zero s) (more 0 (b ∷ s)) ≡ None
     pick true q = not_alone s 0 (omega arith)
     pick false q =
         let p : b ≡ ascii_zero → ⊥ = eqb-false b ascii_zero q in

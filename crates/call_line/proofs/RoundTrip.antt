@@ -11,12 +11,11 @@ use borrow.Author.Tests.{le-leb, lt-ltb, le-ltb, ltb-true, ne_eqb, eqb-true, eqb
 use native.Mathlib.Numerals.{add-one}
 use lib.ListN.{length, get_or, replicate, take, drop, length-append, length-replicate, take-append-drop, length-drop}
 use lib.Seq.{take_at, drop_at, drop-drop, length-take-le}
-use Rattle.call_line.specs.declared.Number.{Number}
-use Rattle.call_line.specs.declared.Number.TheVariants.{Value, Wrong}
+use Rattle.std.proofs.Common.{Option, Some, None}
 use Rattle.call_line.specs.Column.{ascii_nine, ascii_space, ascii_zero, is_digit, more, after_zero, digits_of, leading_spaces, column_of, column, start}
 use Rattle.call_line.specs.Column.{total, cut, row}
-use Rattle.call_line.specs.declared.Fields.TheVariants.{Read}
-use Rattle.call_line.specs.Line.{Four, four, fields_in}
+use Rattle.call_line.specs.declared.Fields.{Fields}
+use Rattle.call_line.specs.Line.{Four, four, fields_in, fields}
 use Rattle.call_line.proofs.Reading.{digit_bounds}
 use Rattle.call_line.proofs.Columns.{within}
 
@@ -72,32 +71,30 @@ written (suc w) n s l u f = pick (written w (n / 10)) (dec_lt n 10)
         ∙ ap (λ (v : ℕ). more v s) (omega arith))
 
 -- write, then read
-pub read_written : (w n : ℕ) → 0 < w → n < 10 ^ w → n < 2 ^ 64 → column_of (column w n) ≡ Value n
+pub read_written : (w n : ℕ) → 0 < w → n < 10 ^ w → n < 2 ^ 64 → column_of (column w n) ≡ Some n
 unfolding column column_of leading_spaces digits_of more after_zero
 read_written zero n l u f = absurd (omega arith)
 read_written (suc w) zero l u f = spaces w (ascii_zero ∷ [])
 read_written (suc w) (suc n) l u f =
     sym (ap column_of (append-nil (column (suc w) (suc n)))) ∙ written (suc w) (suc n) [] (omega arith) u f
 
--- more digits, read backwards: what a Value says of the bytes
+-- more digits, read backwards: what a Some says of the bytes
 record Digit (v b n : ℕ) (s : List ℕ) : Type 0 where
   low : ascii_zero ≤ b
   high : b ≤ ascii_nine
   fits : v * 10 + (b - ascii_zero) < 2 ^ 64
-  rest : more (v * 10 + (b - ascii_zero)) s ≡ Value n
+  rest : more (v * 10 + (b - ascii_zero)) s ≡ Some n
 
-digit : (v b n : ℕ) (s : List ℕ) → more v (b ∷ s) ≡ Value n → Digit v b n s
+digit : (v b n : ℕ) (s : List ℕ) → more v (b ∷ s) ≡ Some n → Digit v b n s
 unfolding more
 digit v b n s e = pick (is_digit b) (ltb (v * 10 + (b - ascii_zero)) (2 ^ 64)) refl refl
   where
     pick : (t u : Bool) → is_digit b ≡ t → ltb (v * 10 + (b - ascii_zero)) (2 ^ 64) ≡ u → Digit v b n s
     pick true true p q = record { low = (digit_bounds b p).0; high = (digit_bounds b p).1; fits = ltb-true _ _ q; rest = simp (p, q) at e }
     pick true false p q =
-        let w : Wrong ≡ Value n = simp (p, q) at e in
-        let z : ◌≡◌ {A = ℕ} 0 1 = cc in absurd (omega arith)
+        let w : None ≡ Some n = simp (p, q) at e in cc
     pick false u p q =
-        let w : Wrong ≡ Value n = simp p at e in
-        let z : ◌≡◌ {A = ℕ} 0 1 = cc in absurd (omega arith)
+        let w : None ≡ Some n = simp p at e in cc
 
 -- a digit more in a column
 column_more : (w v b : ℕ) → 0 < v → ascii_zero ≤ b → b ≤ ascii_nine → column (suc w) (v * 10 + (b - ascii_zero)) ≡ column w v ++ (b ∷ [])
@@ -116,7 +113,7 @@ column_first k b lo hi =
     let r : ascii_zero + (b - ascii_zero) % 10 ≡ b = omega arith in
     simp (lt-ltb _ _ g, r)
 
-rest_is : (t : List ℕ) (w v n : ℕ) → 0 < v → more v t ≡ Value n → column w v ++ t ≡ column (w + length t) n
+rest_is : (t : List ℕ) (w v n : ℕ) → 0 < v → more v t ≡ Some n → column w v ++ t ≡ column (w + length t) n
 unfolding more
 rest_is [] w v n l e = let q : v ≡ n = cc in simp (append-nil, add-zero, q)
 rest_is (b ∷ t) w v n l e =
@@ -126,14 +123,14 @@ rest_is (b ∷ t) w v n l e =
     ∙ rest_is t (suc w) (v * 10 + (b - ascii_zero)) n (omega arith) d.rest
     ∙ ap (λ (x : ℕ). column x n) (omega arith)
 
-zero_is : (s : List ℕ) (k n : ℕ) → after_zero s ≡ Value n → replicate k ascii_space ++ (ascii_zero ∷ s) ≡ column (k + suc (length s)) n
+zero_is : (s : List ℕ) (k n : ℕ) → after_zero s ≡ Some n → replicate k ascii_space ++ (ascii_zero ∷ s) ≡ column (k + suc (length s)) n
 unfolding after_zero
 zero_is [] k n e = let q : 0 ≡ n = cc in rw (← q, add-suc, add-zero) (sym (column_first k ascii_zero (omega arith) (omega arith)))
-zero_is (b ∷ s) k n e = let z : ◌≡◌ {A = ℕ} 0 1 = cc in absurd (omega arith)
+zero_is (b ∷ s) k n e = cc
 
-whole_is : (s : List ℕ) (k n : ℕ) → column_of s ≡ Value n → replicate k ascii_space ++ s ≡ column (k + length s) n
+whole_is : (s : List ℕ) (k n : ℕ) → column_of s ≡ Some n → replicate k ascii_space ++ s ≡ column (k + length s) n
 unfolding column_of leading_spaces digits_of
-whole_is [] k n e = let z : ◌≡◌ {A = ℕ} 0 1 = cc in absurd (omega arith)
+whole_is [] k n e = cc
 whole_is (b ∷ s) k n e = blank (whole_is s (suc k) n) (eqb b ascii_space) refl
   where
     nought : (t : Bool) → eqb b ascii_space ≡ false → eqb b ascii_zero ≡ t → replicate k ascii_space ++ (b ∷ s) ≡ column (k + suc (length s)) n
@@ -147,7 +144,7 @@ whole_is (b ∷ s) k n e = blank (whole_is s (suc k) n) (eqb b ascii_space) refl
         ∙ ap (λ (x : ℕ). column x n) (omega arith)
 
     blank :
-        (column_of s ≡ Value n → replicate (suc k) ascii_space ++ s ≡ column (suc k + length s) n) → (t : Bool) → eqb b ascii_space ≡ t
+        (column_of s ≡ Some n → replicate (suc k) ascii_space ++ s ≡ column (suc k + length s) n) → (t : Bool) → eqb b ascii_space ≡ t
         → replicate k ascii_space ++ (b ∷ s) ≡ column (k + suc (length s)) n
     blank ih true q =
         rw (eqb-true b ascii_space q)
@@ -155,7 +152,7 @@ whole_is (b ∷ s) k n e = blank (whole_is s (suc k) n) (eqb b ascii_space) refl
     blank ih false q = nought (eqb b ascii_zero) q refl
 
 -- read, then write
-pub written_read : (s : List ℕ) (n : ℕ) → column_of s ≡ Value n → column (length s) n ≡ s
+pub written_read : (s : List ℕ) (n : ℕ) → column_of s ≡ Some n → column (length s) n ≡ s
 written_read s n e = sym (rw zero-add at (whole_is s 0 n e))
 
 -- a column of w places has room for n, and a reader takes it
@@ -163,7 +160,7 @@ abbrev pub Fits : ℕ → ℕ → Type 0
 Fits w n = (n < 10 ^ w) × (n < 2 ^ 64)
 
 -- so it is with what is read
-more_fits : (t : List ℕ) (v n k : ℕ) → more v t ≡ Value n → Fits k v → Fits (k + length t) n
+more_fits : (t : List ℕ) (v n k : ℕ) → more v t ≡ Some n → Fits k v → Fits (k + length t) n
 unfolding more
 more_fits [] v n k e h = let q : v ≡ n = cc in rw (add-zero, ← q) h
 more_fits (b ∷ t) v n k e h =
@@ -171,21 +168,21 @@ more_fits (b ∷ t) v n k e h =
     rw (add-suc, ← suc-add)
     (more_fits t (v * 10 + (b - ascii_zero)) n (suc k) d.rest (omega (arith, pow-suc 10 k, d.low, d.high, h.0), d.fits))
 
-zero_fits : (s : List ℕ) (n : ℕ) → after_zero s ≡ Value n → Fits (suc (length s)) n
+zero_fits : (s : List ℕ) (n : ℕ) → after_zero s ≡ Some n → Fits (suc (length s)) n
 unfolding after_zero
 zero_fits [] n e = let q : 0 ≡ n = cc in rw (← q) (lit< tt, lit< tt)
-zero_fits (b ∷ s) n e = let z : ◌≡◌ {A = ℕ} 0 1 = cc in absurd (omega arith)
+zero_fits (b ∷ s) n e = cc
 
-read_fits : (s : List ℕ) (n : ℕ) → column_of s ≡ Value n → Fits (length s) n
+read_fits : (s : List ℕ) (n : ℕ) → column_of s ≡ Some n → Fits (length s) n
 unfolding column_of leading_spaces digits_of
-read_fits [] n e = let z : ◌≡◌ {A = ℕ} 0 1 = cc in absurd (omega arith)
+read_fits [] n e = cc
 read_fits (b ∷ s) n e = pick (read_fits s n) (eqb b ascii_space) refl
   where
     nought : (t : Bool) → eqb b ascii_space ≡ false → eqb b ascii_zero ≡ t → Fits (suc (length s)) n
     nought true f q = zero_fits s n (simp (f, q) at e)
     nought false f q = rw zero-add at (more_fits (b ∷ s) 0 n 0 (simp (f, q) at e) (lit< tt, lit< tt))
 
-    pick : (column_of s ≡ Value n → Fits (length s) n) → (t : Bool) → eqb b ascii_space ≡ t → Fits (suc (length s)) n
+    pick : (column_of s ≡ Some n → Fits (length s) n) → (t : Bool) → eqb b ascii_space ≡ t → Fits (suc (length s)) n
     pick ih true q = let h = ih (simp q at e) in (omega (arith, pow-suc 10 (length s), h.0), h.1)
     pick ih false q = nought (eqb b ascii_zero) q refl
 
@@ -262,7 +259,7 @@ row_of_cuts (w ∷ ws) (n ∷ ns) s e l h =
 -- write a line, then read it
 pub line_written :
     (ws : List ℕ) → Four ws → (k a b c : ℕ) → Fits (get_or ws 0 0) k → Fits (get_or ws 1 0) a → Fits (get_or ws 2 0) b → Fits (get_or ws 3 0) c
-    → fields_in ws (row ws (k ∷ a ∷ b ∷ c ∷ [])) ≡ Read k a b c
+    → fields_in ws (row ws (k ∷ a ∷ b ∷ c ∷ [])) ≡ Some (fields (k ∷ a ∷ b ∷ c ∷ []))
 unfolding fields_in four
 line_written ws w k a b c fk fa fb fc =
     simp (
@@ -275,32 +272,34 @@ line_written ws w k a b c fk fa fb fc =
     ns : List ℕ
     ns = k ∷ a ∷ b ∷ c ∷ []
 
-    column_read : (j n : ℕ) → j < 4 → get_or ns j 0 ≡ n → Fits (get_or ws j 0) n → column_of (cut ws j (row ws ns)) ≡ Value n
+    column_read : (j n : ℕ) → j < 4 → get_or ns j 0 ≡ n → Fits (get_or ws j 0) n → column_of (cut ws j (row ws ns)) ≡ Some n
     column_read j n h e f =
         ap column_of (cut_row ws ns w.long j (omega (arith, w.long))) ∙ rw e (read_written (get_or ws j 0) n (w.places j h) f.0 f.1)
 
 -- fields that were read are four numbers
 were_four :
-    (x y z w : Number) (k a b c : ℕ) → four x y z w ≡ Read k a b c
-    → (x ≡ Value k) × (y ≡ Value a) × (z ≡ Value b) × (w ≡ Value c)
+    (x y z w : Option ℕ) (k a b c : ℕ) → four x y z w ≡ Some (fields (k ∷ a ∷ b ∷ c ∷ []))
+    → (x ≡ Some k) × (y ≡ Some a) × (z ≡ Some b) × (w ≡ Some c)
 unfolding four
-were_four (Value l) (Value m) (Value n) (Value o) k a b c e = (cc, cc, cc, cc)
-were_four (Value l) (Value m) (Value n) Wrong k a b c e = let z : ◌≡◌ {A = ℕ} 0 1 = cc in absurd (omega arith)
-were_four (Value l) (Value m) Wrong w k a b c e = let z : ◌≡◌ {A = ℕ} 0 1 = cc in absurd (omega arith)
-were_four (Value l) Wrong z w k a b c e = let z : ◌≡◌ {A = ℕ} 0 1 = cc in absurd (omega arith)
-were_four Wrong y z w k a b c e = let z : ◌≡◌ {A = ℕ} 0 1 = cc in absurd (omega arith)
+were_four (Some l) (Some m) (Some n) (Some o) k a b c e =
+    let q : fields (l ∷ m ∷ n ∷ o ∷ []) ≡ fields (k ∷ a ∷ b ∷ c ∷ []) = cc in
+    (ap (λ (f : Fields). Some f.kind) q, ap (λ (f : Fields). Some f.a) q, ap (λ (f : Fields). Some f.b) q, ap (λ (f : Fields). Some f.c) q)
+were_four (Some l) (Some m) (Some n) None k a b c e = cc
+were_four (Some l) (Some m) None w k a b c e = cc
+were_four (Some l) None z w k a b c e = cc
+were_four None y z w k a b c e = cc
 
 module _ (ws : List ℕ) (w : Four ws) (s : List ℕ) (l : length s ≡ total ws) where
   length_cut : (j : ℕ) → j < 4 → length (cut ws j s) ≡ get_or ws j 0
   length_cut j h =
       length-take-le (get_or ws j 0) (drop (start ws j) s) (omega (arith, length-drop (start ws j) s, within ws j (omega (arith, w.long))))
 
-  module _ (k a b c : ℕ) (e : fields_in ws s ≡ Read k a b c) where
-    numbers : (column_of (cut ws 0 s) ≡ Value k) × (column_of (cut ws 1 s) ≡ Value a) × (column_of (cut ws 2 s) ≡ Value b) × (column_of (cut ws 3 s) ≡ Value c)
+  module _ (k a b c : ℕ) (e : fields_in ws s ≡ Some (fields (k ∷ a ∷ b ∷ c ∷ []))) where
+    numbers : (column_of (cut ws 0 s) ≡ Some k) × (column_of (cut ws 1 s) ≡ Some a) × (column_of (cut ws 2 s) ≡ Some b) × (column_of (cut ws 3 s) ≡ Some c)
     unfolding fields_in
     numbers = were_four (column_of (cut ws 0 s)) (column_of (cut ws 1 s)) (column_of (cut ws 2 s)) (column_of (cut ws 3 s)) k a b c e
 
-    field_fits : (j n : ℕ) → j < 4 → column_of (cut ws j s) ≡ Value n → Fits (get_or ws j 0) n
+    field_fits : (j n : ℕ) → j < 4 → column_of (cut ws j s) ≡ Some n → Fits (get_or ws j 0) n
     field_fits j n h q = rw (length_cut j h) at (read_fits (cut ws j s) n q)
 
     pub fields_fit : (j : ℕ) → j < 4 → Fits (get_or ws j 0) (get_or (k ∷ a ∷ b ∷ c ∷ []) j 0)
@@ -314,7 +313,7 @@ module _ (ws : List ℕ) (w : Four ws) (s : List ℕ) (l : length s ≡ total ws
     pub line_read : row ws (k ∷ a ∷ b ∷ c ∷ []) ≡ s
     line_read = row_of_cuts ws (k ∷ a ∷ b ∷ c ∷ []) s w.long l each
       where
-        field : (j n : ℕ) → j < 4 → column_of (cut ws j s) ≡ Value n → column (get_or ws j 0) n ≡ cut ws j s
+        field : (j n : ℕ) → j < 4 → column_of (cut ws j s) ≡ Some n → column (get_or ws j 0) n ≡ cut ws j s
         field j n h q = ap (λ (x : ℕ). column x n) (sym (length_cut j h)) ∙ written_read (cut ws j s) n q
 
         each : (j : ℕ) → j < length ws → column (get_or ws j 0) (get_or (k ∷ a ∷ b ∷ c ∷ []) j 0) ≡ cut ws j s

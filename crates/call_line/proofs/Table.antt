@@ -2,7 +2,8 @@
 use Prim.Native.Nat.{ℕ, zero, suc, ◌≤◌, ◌<◌}
 use mathlib.Core.Path.{◌≡◌, refl}
 use native.Mathlib.Omega.{arith}
-use Rattle.call_line.specs.declared.Line.TheVariants.{Refused}
+use Rattle.std.proofs.Common.{Err}
+use Rattle.refusal.specs.declared.Refusal.TheVariants.{NotInShape}
 use Rattle.call_line.specs.Line.{none, alone, flagged, rule_of, call_of}
 
 pub rule_12 : (k : ℕ) → 1 ≤ k → k < 3 → rule_of k ≡ alone
@@ -33,7 +34,7 @@ rule_rest (suc (suc (suc (suc (suc (suc (suc (suc (suc k))))))))) h = refl
 
 pub call_rest :
     (k a b c : ℕ) → (k ≡ 1 → ⊥) → (k ≡ 2 → ⊥) → (k ≡ 3 → ⊥) → (k ≡ 4 → ⊥) → (k ≡ 5 → ⊥) → (k ≡ 6 → ⊥) → (k ≡ 7 → ⊥) → (k ≡ 8 → ⊥)
-    → call_of k a b c ≡ Refused 1
+    → call_of k a b c ≡ Err NotInShape
 unfolding call_of
 call_rest zero a b c n1 n2 n3 n4 n5 n6 n7 n8 = refl
 call_rest (suc zero) a b c n1 n2 n3 n4 n5 n6 n7 n8 = absurd (n1 refl)

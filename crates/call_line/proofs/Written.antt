@@ -8,7 +8,7 @@ use native.Mathlib.Decide.{dec_lt}
 use native.Mathlib.Omega.{arith}
 use native.Mathlib.Numerals.{add-one}
 use native.Mathlib.Nat.{zero-add}
-use borrow.Author.Tests.{eqb-true, eqb-false, eq-eqb, ne_eqb, lt-ltb, le-ltb, ltb-false}
+use borrow.Author.Tests.{lt-ltb, le-ltb, ltb-false}
 use borrow.Rule.Slice.PartMut.{mid_of, put_mid, mid_len}
 use denote.Array.{Array, each}
 use denote.Laws.{Is}
@@ -16,84 +16,58 @@ use denote.Plain.{UInt}
 use denote.Shadow.{shadow}
 use mir.Syntax.{w64}
 use mir.Val.{Val}
-use lib.Dec.{eqb, ltb, lit<, lit≤}
+use lib.Dec.{ltb, lit<, lit≤}
 use lib.ListN.{length, get_or, take, drop, set, length-append, length-drop, drop_of_length-le, get_or-eq_default}
 use lib.Seq.{take_at, take_all, drop_at}
 use Rattle.buffer.specs.Laid.{laid}
 use Rattle.buffer.proofs.Laying.{mid_laid, byte_laid, length_laid, laid_twice}
+use Rattle.std.proofs.Common.{Result, Ok, Err}
+use Rattle.refusal.specs.Outcome.{and_then}
+use Rattle.refusal.specs.declared.Refusal.{Refusal}
+use Rattle.refusal.specs.declared.Refusal.TheVariants.{NoRoom}
+use Rattle.refusal.proofs.Outcome.{both_ok}
 use Rattle.packets.specs.Summary.{largest_packet}
 use Rattle.packets.proofs.Totals.{packet_taken}
-use Rattle.loss_controller.specs.Setters.{time_refusal}
-use Rattle.call_line.specs.declared.Fields.{Fields}
 use Rattle.call_line.specs.declared.Call.{Call}
 use Rattle.call_line.specs.declared.Call.TheVariants.{Estimate, Acknowledged, AlrOn, AlrOff, CapacityIs, CapacityNone, Packet, Report, Read, StartBytes, StartPackets}
-use Rattle.call_line.specs.declared.Line.TheVariants.{Taken, Refused, ReportRefused}
 use Rattle.call_line.specs.Column.{column, start, total, row}
-use Rattle.call_line.specs.Line.{wide, narrow, fields_of, in_table, rate_code, unless_refused, by_flag, report_of, alr_of, capacity_of, packet_of, call_of}
-use Rattle.call_line.specs.Line.{start_of, values_of, checked, line_of}
-use Rattle.call_line.specs.Write.{ascii_newline, line_text, line_bytes, refusal_of, fields, call_refusal, write_refusal, written, OfType, ReadBack}
-use Rattle.call_line.specs.Write.{CallNumbers, Kept, WriteKeeps, WriteRead, ReadWrite, WideRead, NarrowRead, NarrowTaken, TwoWidths}
+use Rattle.call_line.specs.Line.{wide, narrow, in_table, unless_refused, by_flag, alr_of, capacity_of, packet_of, call_of}
+use Rattle.call_line.specs.Line.{start_of, values_of, checked, told, said, line_of}
+use Rattle.call_line.specs.Write.{ascii_newline, line_text, line_bytes, reread, check, write_outcome, written, OfType, ReadBack}
+use Rattle.call_line.specs.Write.{CallChecks, Kept, WriteKeeps, WriteRead, ReadWrite, WideRead, NarrowRead, NarrowTaken, TwoWidths}
 use Rattle.call_line.proofs.Columns.{starts_within, within, Shape, wide_shape, narrow_shape, Told, is_wide, is_narrow, other, told_by_length}
 use Rattle.call_line.proofs.RoundTrip.{Fits, length_column, length_row, row_more, length_row_first}
-use Rattle.call_line.proofs.Calls.{taken_fields, four_values, four_long, call_read, values_fit, line_says}
+use Rattle.call_line.proofs.Calls.{told_ok, taken_fields, four_values, four_long, call_read, values_fit, line_says}
 
 -- ---- what a call is turned down with
 
-unless_number : (refusal : ℕ) (call : Call) → refusal_of (unless_refused refusal call) ≡ refusal
-unfolding unless_refused
-unless_number refusal call = pick (eqb refusal 0) refl
-  where
-    pick : (t : Bool) → eqb refusal 0 ≡ t → refusal_of (cond t (Taken call) (Refused refusal)) ≡ refusal
-    pick true q = sym (eqb-true refusal 0 q)
-    pick false q = refl
-
-report_number : (a : ℕ) → refusal_of (report_of a) ≡ rate_code a
-unfolding report_of
-report_number a = pick (rate_code a) (eqb (rate_code a) 0) refl
-  where
-    pick : (n : ℕ) (t : Bool) → eqb n 0 ≡ t → refusal_of (cond t (Taken (Report a)) (ReportRefused n)) ≡ n
-    pick n true q = sym (eqb-true n 0 q)
-    pick n false q = refl
-
--- the table allows every call, so that 1 does not come
-pub call_numbers : CallNumbers
-unfolding values_of call_refusal checked in_table call_of alr_of capacity_of packet_of start_of by_flag
-call_numbers (Estimate rate) = unless_number (rate_code rate) (Estimate rate)
-call_numbers (Acknowledged rate) = unless_number (rate_code rate) (Acknowledged rate)
-call_numbers (AlrOn start) = unless_number (time_refusal start) (AlrOn start)
-call_numbers AlrOff = refl
-call_numbers (CapacityIs rate) = unless_number (rate_code rate) (CapacityIs rate)
-call_numbers CapacityNone = refl
-call_numbers (Packet time lost size) = unless_number _ (Packet time lost size)
-call_numbers (Report rate) = report_number rate
-call_numbers Read = refl
-call_numbers StartBytes = refl
-call_numbers StartPackets = refl
+-- the table allows every call, so that 1 does not come, and the fields are the call's own
+pub call_checks : CallChecks
+unfolding values_of reread checked in_table call_of alr_of capacity_of packet_of start_of by_flag unless_refused
+call_checks (Estimate rate) = refl
+call_checks (Acknowledged rate) = refl
+call_checks (AlrOn start) = refl
+call_checks AlrOff = refl
+call_checks (CapacityIs rate) = refl
+call_checks CapacityNone = refl
+call_checks (Packet time lost size) = refl
+call_checks (Report rate) = refl
+call_checks Read = refl
+call_checks StartBytes = refl
+call_checks StartPackets = refl
 
 -- ---- what is written is read
 
--- a call that is not turned down is taken
-not_turned_down : (refusal : ℕ) (call : Call) → refusal_of (unless_refused refusal call) ≡ 0 → unless_refused refusal call ≡ Taken call
-unfolding unless_refused
-not_turned_down refusal call h = simp (eq-eqb _ _ (sym (unless_number refusal call) ∙ h))
+-- a call that is not turned down is read back as it is
+read_same : (call : Call) → check call ≡ Ok tt → reread call ≡ Ok call
+read_same call h = rw (call_checks call, h)
 
-report_not_turned_down : (a : ℕ) → refusal_of (report_of a) ≡ 0 → report_of a ≡ Taken (Report a)
-unfolding report_of
-report_not_turned_down a h = simp (eq-eqb _ _ (sym (report_number a) ∙ h))
-
-values_say : (call : Call) → call_refusal call ≡ 0 → checked (fields (values_of call)) ≡ Taken call
-unfolding values_of call_refusal checked in_table call_of alr_of capacity_of packet_of start_of by_flag
-values_say (Estimate rate) h = not_turned_down (rate_code rate) (Estimate rate) h
-values_say (Acknowledged rate) h = not_turned_down (rate_code rate) (Acknowledged rate) h
-values_say (AlrOn start) h = not_turned_down (time_refusal start) (AlrOn start) h
-values_say AlrOff h = refl
-values_say (CapacityIs rate) h = not_turned_down (rate_code rate) (CapacityIs rate) h
-values_say CapacityNone h = refl
-values_say (Packet time lost size) h = not_turned_down _ (Packet time lost size) h
-values_say (Report rate) h = report_not_turned_down rate h
-values_say Read h = refl
-values_say StartBytes h = refl
-values_say StartPackets h = refl
+not_turned_down : (call found : Call) → reread call ≡ Ok found → check call ≡ Ok tt
+not_turned_down call found e = pick (check call) (sym (call_checks call) ∙ e)
+  where
+    pick : (r : Result (Unit {0}) Refusal) → and_then r (λ _. Ok call) ≡ Ok found → r ≡ Ok tt
+    pick (Ok x) q = refl
+    pick (Err r) q = cc
 
 -- of the four values the kind is below 9, and the size is one that is taken
 kind_small : (call : Call) → get_or (values_of call) 0 0 < 9
@@ -110,7 +84,7 @@ kind_small Read = omega arith
 kind_small StartBytes = omega arith
 kind_small StartPackets = omega arith
 
-size_small : (call : Call) → call_refusal call ≡ 0 → get_or (values_of call) 3 0 ≤ largest_packet
+size_small : (call : Call) → check call ≡ Ok tt → get_or (values_of call) 3 0 ≤ largest_packet
 unfolding values_of
 size_small (Estimate rate) h = omega arith
 size_small (Acknowledged rate) h = omega arith
@@ -118,7 +92,7 @@ size_small (AlrOn start) h = omega arith
 size_small AlrOff h = omega arith
 size_small (CapacityIs rate) h = omega arith
 size_small CapacityNone h = omega arith
-size_small (Packet time lost size) h = (packet_taken _ (sym (call_numbers (Packet time lost size)) ∙ h)).size_within
+size_small (Packet time lost size) h = (packet_taken _ h).size_within
 size_small (Report rate) h = omega arith
 size_small Read h = omega arith
 size_small StartBytes h = omega arith
@@ -126,13 +100,14 @@ size_small StartPackets h = omega arith
 
 -- a call is read from its text in columns of any widths in which its values have room
 call_says_in :
-    (ws : List ℕ) → Shape ws → (call : Call) → OfType call → ((j : ℕ) → j < 4 → get_or (values_of call) j 0 < 10 ^ get_or ws j 0) → call_refusal call ≡ 0
-    → line_of (row ws (values_of call)) ≡ Taken call
+    (ws : List ℕ) → Shape ws → (call : Call) → OfType call → ((j : ℕ) → j < 4 → get_or (values_of call) j 0 < 10 ^ get_or ws j 0) → check call ≡ Ok tt
+    → line_of (row ws (values_of call)) ≡ Ok call
+unfolding reread
 call_says_in ws w call t f h =
     let fits : (j : ℕ) → j < 4 → Fits (get_or ws j 0) (get_or (values_of call) j 0) = λ j l. (f j l, t j) in
     ap (λ (ns : List ℕ). line_of (row ws ns)) (four_values call)
     ∙ line_says ws w _ _ _ _ (fits 0 (lit< tt)) (fits 1 (lit< tt)) (fits 2 (lit< tt)) (fits 3 (lit< tt))
-    ∙ values_say call h
+    ∙ ap (told _) (read_same call h)
 
 -- kind, A and B have room in both widths, and so the size decides
 has_room :
@@ -144,7 +119,7 @@ has_room ws k a b call t s (suc (suc zero)) h = omega (arith, t 2)
 has_room ws k a b call t s (suc (suc (suc zero))) h = s
 has_room ws k a b call t s (suc (suc (suc (suc j)))) h = absurd (omega arith)
 
-pub call_says : (call : Call) → OfType call → call_refusal call ≡ 0 → line_of (row wide (values_of call)) ≡ Taken call
+pub call_says : (call : Call) → OfType call → check call ≡ Ok tt → line_of (row wide (values_of call)) ≡ Ok call
 call_says call t h =
     call_says_in wide wide_shape call t (has_room wide (lit≤ tt) (lit≤ tt) (lit≤ tt) call t (omega (arith, size_small call h))) h
 
@@ -160,27 +135,26 @@ pub text_long : (call : Call) → length (line_text call) ≡ line_bytes
 unfolding line_text
 text_long call = length-append (row wide (values_of call)) (ascii_newline ∷ []) ∙ rw (text_wide call)
 
-turned_down_first : (call : Call) (room : ℕ) → write_refusal call room ≡ 0 → call_refusal call ≡ 0
-unfolding write_refusal
-turned_down_first call room h = pick (eqb (call_refusal call) 0) refl h
-  where
-    pick : (t : Bool) → eqb (call_refusal call) 0 ≡ t → cond t (cond (ltb room line_bytes) 13 0) (call_refusal call) ≡ 0 → call_refusal call ≡ 0
-    pick true q h = eqb-true _ _ q
-    pick false q h = h
+turned_down_first : (call : Call) (room : ℕ) → write_outcome call room ≡ Ok tt → check call ≡ Ok tt
+unfolding write_outcome
+turned_down_first call room h = both_ok (reread call) _ tt h (λ found e _. not_turned_down call found e)
 
 -- what is written is read
 pub write_read : WriteRead
 unfolding written line_text
 write_read call out t h =
-    rw (eq-eqb _ _ h, append_assoc, take_at (row wide (values_of call)) (ascii_newline ∷ drop line_bytes out) (total wide) (text_wide call))
+    rw (h, append_assoc, take_at (row wide (values_of call)) (ascii_newline ∷ drop line_bytes out) (total wide) (text_wide call))
     (call_says call t (turned_down_first call (length out) h))
 
 -- ---- what is read is written
 
--- the call of a line that is taken is not turned down
-pub taken_allowed : (s : List ℕ) (call : Call) → line_of s ≡ Taken call → call_refusal call ≡ 0
-unfolding call_refusal line_of
-taken_allowed s call e = ap (λ (f : Fields). refusal_of (checked f)) (sym (taken_fields s call e)) ∙ ap refusal_of e
+-- the call of a line that is taken is read back, and is not turned down
+taken_back : (s : List ℕ) (call : Call) → line_of s ≡ Ok call → reread call ≡ Ok call
+unfolding reread line_of said
+taken_back s call e = told_ok _ (reread call) call (sym (ap said (taken_fields s call e)) ∙ e)
+
+pub taken_allowed : (s : List ℕ) (call : Call) → line_of s ≡ Ok call → check call ≡ Ok tt
+taken_allowed s call e = not_turned_down call call (taken_back s call e)
 
 pub wide_read : WideRead
 wide_read s call l e = call_read wide wide_shape s l call e
@@ -195,18 +169,16 @@ narrow_read s call l e =
     }
 
 pub two_widths : TwoWidths
-unfolding line_of checked
+unfolding line_of said
 two_widths s call e = pick (told_by_length s)
   where
     pick : Told s → (length s ≡ total wide) ⊎ (length s ≡ total narrow)
     pick (is_wide l) = inl l
     pick (is_narrow l) = inr l
-    pick (other u) =
-        let q : checked (fields_of s) ≡ Refused 1 = ap checked u in
-        let z : ◌≡◌ {A = ℕ} 0 1 = cc in absurd (omega arith)
+    pick (other u) = let q = ap said u in cc
 
 -- and its numbers are of 64 bits
-pub taken_of_type : (s : List ℕ) (call : Call) → line_of s ≡ Taken call → OfType call
+pub taken_of_type : (s : List ℕ) (call : Call) → line_of s ≡ Ok call → OfType call
 taken_of_type s call e j = ⊎_elim (small wide wide_shape) (small narrow narrow_shape) (two_widths s call e)
   where
     small : (ws : List ℕ) → Shape ws → length s ≡ total ws → get_or (values_of call) j 0 < 2 ^ 64
@@ -217,55 +189,51 @@ taken_of_type s call e j = ⊎_elim (small wide wide_shape) (small narrow narrow
         pick (no h) = rw (get_or-eq_default (values_of call) 0 {n = j} (omega (arith, h, four_long call))) (lit< tt)
 
 pub read_write : ReadWrite
-unfolding write_refusal written line_text
+unfolding write_outcome written line_text
 read_write s call w e out =
-    let q : write_refusal call (length out) ≡ cond (ltb (length out) (length s + 1)) 13 0 = rw (eq-eqb _ _ (taken_allowed s call e), w) in
+    let q : write_outcome call (length out) ≡ cond (ltb (length out) (length s + 1)) (Err NoRoom) (Ok tt) = rw (taken_back s call e, w) in
     record {
       refusal = q;
       text = λ h.
           let l : length s + 1 ≤ length out = omega arith in
-          let z : write_refusal call (length out) ≡ 0 = q ∙ rw (le-ltb _ _ l) in
-          rw (eq-eqb _ _ z, wide_read s call w e, w) (append_assoc s (ascii_newline ∷ []) (drop line_bytes out));
+          let z : write_outcome call (length out) ≡ Ok tt = q ∙ rw (le-ltb _ _ l) in
+          rw (z, wide_read s call w e, w) (append_assoc s (ascii_newline ∷ []) (drop line_bytes out));
     }
 
 -- ---- what stays
 
-roomy : (call : Call) (room : ℕ) → write_refusal call room ≡ 0 → line_bytes ≤ room
-unfolding write_refusal
-roomy call room h = pick (eqb (call_refusal call) 0) (ltb room line_bytes) refl refl h
+roomy : (call : Call) (room : ℕ) → write_outcome call room ≡ Ok tt → line_bytes ≤ room
+unfolding write_outcome
+roomy call room h = both_ok (reread call) _ tt h (λ found e q. pick (ltb room line_bytes) refl q)
   where
-    pick :
-        (t u : Bool) → eqb (call_refusal call) 0 ≡ t → ltb room line_bytes ≡ u → cond t (cond u 13 0) (call_refusal call) ≡ 0
-        → line_bytes ≤ room
-    pick true true q p h = absurd (omega arith)
-    pick true false q p h = ltb-false _ _ p
-    pick false u q p h = absurd (eqb-false _ _ q h)
+    pick : (t : Bool) → ltb room line_bytes ≡ t → ◌≡◌ {A = Result (Unit {0}) Refusal} (cond t (Err NoRoom) (Ok tt)) (Ok tt) → line_bytes ≤ room
+    pick true p q = cc
+    pick false p q = ltb-false _ _ p
 
 pub write_keeps : WriteKeeps
 unfolding written
-write_keeps call out = pick (eqb (write_refusal call (length out)) 0) refl
+write_keeps call out = pick (write_outcome call (length out)) refl
   where
-    pick : (t : Bool) → eqb (write_refusal call (length out)) 0 ≡ t → Kept call out
-    pick true q =
-        let e : write_refusal call (length out) ≡ 0 = eqb-true _ _ q in
+    pick : (r : Result (Unit {0}) Refusal) → write_outcome call (length out) ≡ r → Kept call out
+    pick (Ok x) q =
         let w = text_long call in
         record {
-          refused = λ n. absurd (n e);
+          refused = λ e n. cc;
           behind = rw q (drop_at (line_text call) (drop line_bytes out) line_bytes w);
-          long = rw (q, length-append, w, length-drop) (omega (arith, roomy call (length out) e));
+          long = rw (q, length-append, w, length-drop) (omega (arith, roomy call (length out) q));
         }
-    pick false q = record { refused = λ n. rw q; behind = rw q; long = rw q }
+    pick (Err e) q = record { refused = λ e n. rw q; behind = rw q; long = rw q }
 
-pub room_enough : (call : Call) → call_refusal call ≡ 0 → write_refusal call line_bytes ≡ 0
-unfolding write_refusal
-room_enough call r = rw (eq-eqb _ _ r)
+pub room_enough : (call : Call) → check call ≡ Ok tt → write_outcome call line_bytes ≡ Ok tt
+unfolding write_outcome
+room_enough call h = rw (read_same call h)
 
 -- a buffer as long as the line is filled with it
-pub text_fills : (call : Call) (out : List ℕ) → write_refusal call line_bytes ≡ 0 → length out ≡ line_bytes → written call out ≡ line_text call
+pub text_fills : (call : Call) (out : List ℕ) → write_outcome call line_bytes ≡ Ok tt → length out ≡ line_bytes → written call out ≡ line_text call
 unfolding written
 text_fills call out r m =
     let d : drop line_bytes out ≡ [] = drop_of_length-le out {i = line_bytes} (omega (arith, m)) in
-    rw (m, eq-eqb _ _ r, d) (append-nil (line_text call))
+    rw (m, r, d) (append-nil (line_text call))
 
 -- ---- the columns, one after another
 
@@ -322,26 +290,26 @@ below (n ∷ ns) (v ∷ vs) s (suc j) = below ns vs s.1 j
 pub of_type : (call : Call) (ns : List ℕ) (vs : List Val) (n : ℕ) → ns ≡ values_of call → Is (Array (UInt w64) n) ns vs → OfType call
 of_type call ns vs n e i j = rw (← e) (below ns _ i.1.1 j)
 
-abbrev pub Wrote : Call → List ℕ → ℕ → List ℕ → Type 0
-Wrote call out₀ r out = ((r ≡ write_refusal call (length out₀)) × (out ≡ written call out₀)) × ReadBack call r out
+abbrev pub Wrote : Call → List ℕ → Result (Unit {0}) Refusal → List ℕ → Type 0
+Wrote call out₀ r out = ((r ≡ write_outcome call (length out₀)) × (out ≡ written call out₀)) × ReadBack call r out
 
-pub refused : (call : Call) (out : List ℕ) (r : ℕ) → (r ≡ 0 → ⊥) → r ≡ write_refusal call (length out) → Wrote call out r out
+pub refused : (call : Call) (out : List ℕ) (e : Refusal) → write_outcome call (length out) ≡ Err e → Wrote call out (Err e) out
 unfolding written
-refused call out r n e = ((e, rw (← e, ne_eqb r 0 n)), λ z. absurd (n z))
+refused call out e h = ((sym h, rw h), λ z. cc)
 
-pub turned_down : (call : Call) (out : List ℕ) (r : ℕ) → (r ≡ 0 → ⊥) → r ≡ call_refusal call → Wrote call out r out
-unfolding write_refusal
-turned_down call out r n e = refused call out r n (e ∙ rw (← e, ne_eqb r 0 n))
+pub turned_down : (call : Call) (out : List ℕ) (e : Refusal) → reread call ≡ Err e → Wrote call out (Err e) out
+unfolding write_outcome
+turned_down call out e h = refused call out e (rw h)
 
-pub no_room : (call : Call) (out : List ℕ) → 0 ≡ call_refusal call → length out < line_bytes → Wrote call out 13 out
-unfolding write_refusal
-no_room call out e h = refused call out 13 (λ z. omega arith) (rw (← e, lt-ltb _ _ h))
+pub no_room : (call found : Call) (out : List ℕ) → reread call ≡ Ok found → length out < line_bytes → Wrote call out (Err NoRoom) out
+unfolding write_outcome
+no_room call found out e h = refused call out NoRoom (rw (e, lt-ltb _ _ h))
 
 pub accepted :
-    (call : Call) (out₀ out : List ℕ) → OfType call → 0 ≡ call_refusal call → line_bytes ≤ length out₀
-    → out ≡ line_text call ++ drop line_bytes out₀ → Wrote call out₀ 0 out
-unfolding write_refusal written
-accepted call out₀ out t e h q =
-    let z : 0 ≡ write_refusal call (length out₀) = rw (← e, le-ltb _ _ h) in
-    let w : out ≡ written call out₀ = q ∙ rw (← z) in
-    ((z, w), λ _. rw w (write_read call out₀ t (sym z)))
+    (call found : Call) (out₀ out : List ℕ) → OfType call → reread call ≡ Ok found → line_bytes ≤ length out₀
+    → out ≡ line_text call ++ drop line_bytes out₀ → Wrote call out₀ (Ok tt) out
+unfolding write_outcome written
+accepted call found out₀ out t e h q =
+    let z : write_outcome call (length out₀) ≡ Ok tt = rw (e, le-ltb _ _ h) in
+    let w : out ≡ written call out₀ = q ∙ rw z in
+    ((sym z, w), λ _. rw w (write_read call out₀ t z))

@@ -1,7 +1,5 @@
 -- Columns: numbers "decimal, right-justified with spaces, no leading zeros", read and written. Definitions only.
-use Rattle.std.specs.Prelude.{ℕ, zero, suc, ◌+◌, ◌-◌, ◌*◌, ◌/◌, ◌%◌, ◌^◌, Bool, cond, ◌&&◌, List, [], ◌∷◌, ◌++◌, eqb, leb, ltb, length, get_or, take, drop, replicate}
-use Rattle.call_line.specs.declared.Number.{Number}
-use Rattle.call_line.specs.declared.Number.TheVariants.{Value, Wrong}
+use Rattle.std.specs.Prelude.{ℕ, zero, suc, ◌+◌, ◌-◌, ◌*◌, ◌/◌, ◌%◌, ◌^◌, Bool, ◌&&◌, if◌then◌else◌, Option, Some, None, List, [], ◌∷◌, ◌++◌, eqb, leb, ltb, length, get_or, take, drop, replicate}
 
 -- ---- bytes
 
@@ -20,28 +18,28 @@ ascii_nine = 57
 unfoldable pub is_digit : ℕ → Bool
 is_digit b = leb ascii_zero b && leb b ascii_nine
 
--- v, and the digits s after it; "a number above 2^64 - 1" is wrong
-unfoldable pub more : ℕ → List ℕ → Number
-more v [] = Value v
+-- v, and the digits s after it; "a number above 2^64 - 1" is none
+unfoldable pub more : ℕ → List ℕ → Option ℕ
+more v [] = Some v
 more v (b ∷ s) =
-    cond (is_digit b && ltb (v * 10 + (b - ascii_zero)) (2 ^ 64)) (more (v * 10 + (b - ascii_zero)) s) Wrong
+    if is_digit b && ltb (v * 10 + (b - ascii_zero)) (2 ^ 64) then more (v * 10 + (b - ascii_zero)) s else None
 
 -- what follows a leading zero: nothing
-unfoldable pub after_zero : List ℕ → Number
-after_zero [] = Value 0
-after_zero (b ∷ s) = Wrong
+unfoldable pub after_zero : List ℕ → Option ℕ
+after_zero [] = Some 0
+after_zero (b ∷ s) = None
 
 -- a number's digits: a zero alone, or digits that begin with no zero
-unfoldable pub digits_of : List ℕ → Number
-digits_of [] = Wrong
-digits_of (b ∷ s) = cond (eqb b ascii_zero) (after_zero s) (more 0 (b ∷ s))
+unfoldable pub digits_of : List ℕ → Option ℕ
+digits_of [] = None
+digits_of (b ∷ s) = if eqb b ascii_zero then after_zero s else more 0 (b ∷ s)
 
 unfoldable pub leading_spaces : List ℕ → ℕ
 leading_spaces [] = 0
-leading_spaces (b ∷ s) = cond (eqb b ascii_space) (suc (leading_spaces s)) 0
+leading_spaces (b ∷ s) = if eqb b ascii_space then suc (leading_spaces s) else 0
 
 -- what a column says: spaces, and then digits to its end
-unfoldable pub column_of : List ℕ → Number
+unfoldable pub column_of : List ℕ → Option ℕ
 column_of s = digits_of (drop (leading_spaces s) s)
 
 -- ---- writing
@@ -49,7 +47,7 @@ column_of s = digits_of (drop (leading_spaces s) s)
 -- n in w places: its last digit after the others, or after spaces
 unfoldable pub column : ℕ → ℕ → List ℕ
 column zero n = []
-column (suc w) n = cond (ltb n 10) (replicate w ascii_space) (column w (n / 10)) ++ ((ascii_zero + n % 10) ∷ [])
+column (suc w) n = (if ltb n 10 then replicate w ascii_space else column w (n / 10)) ++ ((ascii_zero + n % 10) ∷ [])
 
 -- ---- columns beside each other
 

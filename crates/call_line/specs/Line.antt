@@ -1,15 +1,16 @@
 -- A line of a call list: its columns, the table of kinds, the refusals in their order. Definitions only.
-use Rattle.std.specs.Prelude.{ℕ, ◌<◌, ◌≡◌, Bool, true, false, cond, ◌&&◌, ◌||◌, not, List, [], ◌∷◌, eqb, length, get_or}
-use Rattle.packets.specs.Summary.{packet_refusal}
-use Rattle.loss_controller.specs.Setters.{rate_of, rate_refusal, time_refusal}
-use Rattle.call_line.specs.declared.Number.{Number}
-use Rattle.call_line.specs.declared.Number.TheVariants.{Value, Wrong}
+use Rattle.std.specs.Prelude.{ℕ, ◌<◌, ◌≡◌, Bool, true, false, ◌&&◌, ◌||◌, not, if◌then◌else◌, Option, Some, None, Result, Ok, Err, List, [], ◌∷◌, eqb, length, get_or}
+use Rattle.refusal.specs.Refusal.{code}
+use Rattle.refusal.specs.Outcome.{and_then}
+use Rattle.refusal.specs.declared.Refusal.{Refusal}
+use Rattle.refusal.specs.declared.Refusal.TheVariants.{NotInShape, Flag}
+use Rattle.packets.specs.Summary.{check_packet}
+use Rattle.loss_controller.specs.Setters.{rate_of, check_rate, check_time}
 use Rattle.call_line.specs.declared.Fields.{Fields}
-use Rattle.call_line.specs.declared.Fields.TheVariants.{Read as Fields-as-Read, Unreadable}
 use Rattle.call_line.specs.declared.Call.{Call}
 use Rattle.call_line.specs.declared.Call.TheVariants.{Estimate, Acknowledged, AlrOn, AlrOff, CapacityIs, CapacityNone, Packet, Report, Read, StartBytes, StartPackets}
-use Rattle.call_line.specs.declared.Line.{Line}
-use Rattle.call_line.specs.declared.Line.TheVariants.{Taken, Refused, ReportRefused}
+use Rattle.call_line.specs.declared.LineRefusal.{LineRefusal}
+use Rattle.call_line.specs.declared.LineRefusal.TheVariants.{Report as LineRefusal-as-Report, Other}
 use Rattle.call_line.specs.Column.{column_of, total, cut}
 
 -- ---- columns
@@ -23,22 +24,22 @@ abbrev pub narrow : List ℕ
 narrow = 2 ∷ 20 ∷ 20 ∷ 6 ∷ []
 
 -- "The first wrong column ends the reading of that line."
-unfoldable pub four : Number → Number → Number → Number → Fields
-four (Value k) (Value a) (Value b) (Value c) = Fields-as-Read k a b c
-four (Value k) (Value a) (Value b) Wrong = Unreadable
-four (Value k) (Value a) Wrong c = Unreadable
-four (Value k) Wrong b c = Unreadable
-four Wrong a b c = Unreadable
+unfoldable pub four : Option ℕ → Option ℕ → Option ℕ → Option ℕ → Option Fields
+four (Some kind) (Some a) (Some b) (Some c) = Some (record { kind = kind; a = a; b = b; c = c })
+four (Some kind) (Some a) (Some b) None = None
+four (Some kind) (Some a) None c = None
+four (Some kind) None b c = None
+four None a b c = None
 
 -- the fields of a line whose columns are this wide
-unfoldable pub fields_in : List ℕ → List ℕ → Fields
+unfoldable pub fields_in : List ℕ → List ℕ → Option Fields
 fields_in ws s = four (column_of (cut ws 0 s)) (column_of (cut ws 1 s)) (column_of (cut ws 2 s)) (column_of (cut ws 3 s))
 
 -- "each line told by its own length" (Q-10)
-unfoldable pub fields_of : List ℕ → Fields
+unfoldable pub fields_of : List ℕ → Option Fields
 fields_of s =
-    cond (eqb (length s) (total wide)) (fields_in wide s)
-    (cond (eqb (length s) (total narrow)) (fields_in narrow s) Unreadable)
+    if eqb (length s) (total wide) then fields_in wide s
+    else (if eqb (length s) (total narrow) then fields_in narrow s else None)
 
 -- ---- the table of kinds
 
@@ -76,54 +77,50 @@ in_table kind a b c = allowed (rule_of kind) a b c
 -- ---- calls
 
 -- code 2 of a rate's 64 bits
-abbrev pub rate_code : ℕ → ℕ
-rate_code n = rate_refusal (rate_of n)
+abbrev pub check_bits : ℕ → Result (Unit {0}) Refusal
+check_bits n = check_rate (rate_of n)
 
 -- a call whose argument is not refused
-unfoldable pub unless_refused : ℕ → Call → Line
-unless_refused refusal call = cond (eqb refusal 0) (Taken call) (Refused refusal)
+unfoldable pub unless_refused : Result (Unit {0}) Refusal → Call → Result Call Refusal
+unless_refused check call = and_then check (λ _. Ok call)
 
 -- "the flag's 8, 2 or 3"
-unfoldable pub by_flag : ℕ → Line → Line → Line
-by_flag b off on = cond (eqb b 0) off (cond (eqb b 1) on (Refused 8))
-
--- "A kind 6 line that doesn't get code 1 empties the queue, whether or not another code follows."
-unfoldable pub report_of : ℕ → Line
-report_of a = cond (eqb (rate_code a) 0) (Taken (Report a)) (ReportRefused (rate_code a))
+unfoldable pub by_flag : ℕ → Result Call Refusal → Result Call Refusal → Result Call Refusal
+by_flag b off on = if eqb b 0 then off else (if eqb b 1 then on else Err Flag)
 
 -- "start in ns, 0 if off", "1 on, 0 off"
-unfoldable pub alr_of : ℕ → ℕ → Line
-alr_of a b = by_flag b (Taken AlrOff) (unless_refused (time_refusal a) (AlrOn a))
+unfoldable pub alr_of : ℕ → ℕ → Result Call Refusal
+alr_of a b = by_flag b (Ok AlrOff) (unless_refused (check_time a) (AlrOn a))
 
 -- "rate, 0 if none", "1 given, 0 none"
-unfoldable pub capacity_of : ℕ → ℕ → Line
-capacity_of a b = by_flag b (Taken CapacityNone) (unless_refused (rate_code a) (CapacityIs a))
+unfoldable pub capacity_of : ℕ → ℕ → Result Call Refusal
+capacity_of a b = by_flag b (Ok CapacityNone) (unless_refused (check_bits a) (CapacityIs a))
 
 -- "kind 5 checks 3, 17, 8", as a report does of each packet
-unfoldable pub packet_of : ℕ → ℕ → ℕ → Line
+unfoldable pub packet_of : ℕ → ℕ → ℕ → Result Call Refusal
 packet_of a b c =
-    unless_refused (packet_refusal (record { local_send_time = a; size = c; lost = b })) (Packet a b c)
+    unless_refused (check_packet (record { local_send_time = a; size = c; lost = b })) (Packet a b c)
 
 -- "B being 0 for bytes and 1 for packets", "another B is code 8" (Q-7)
-unfoldable pub start_of : ℕ → Line
-start_of b = by_flag b (Taken StartBytes) (Taken StartPackets)
+unfoldable pub start_of : ℕ → Result Call Refusal
+start_of b = by_flag b (Ok StartBytes) (Ok StartPackets)
 
 -- the kinds 0 to 8
-unfoldable pub call_of : ℕ → ℕ → ℕ → ℕ → Line
+unfoldable pub call_of : ℕ → ℕ → ℕ → ℕ → Result Call Refusal
 call_of kind a b c =
     get_or
-    (Refused 1
-    ∷ unless_refused (rate_code a) (Estimate a)
-    ∷ unless_refused (rate_code a) (Acknowledged a)
+    (Err NotInShape
+    ∷ unless_refused (check_bits a) (Estimate a)
+    ∷ unless_refused (check_bits a) (Acknowledged a)
     ∷ alr_of a b
     ∷ capacity_of a b
     ∷ packet_of a b c
-    ∷ report_of a
-    ∷ Taken Read
+    ∷ unless_refused (check_bits a) (Report a)
+    ∷ Ok Read
     ∷ start_of b
     ∷ [])
     kind
-    (Refused 1)
+    (Err NotInShape)
 
 -- the table, call by call: kind, A, B and C
 unfoldable pub values_of : Call → List ℕ
@@ -139,14 +136,29 @@ values_of Read = 7 ∷ 0 ∷ 0 ∷ 0 ∷ []
 values_of StartBytes = 8 ∷ 0 ∷ 0 ∷ 0 ∷ []
 values_of StartPackets = 8 ∷ 0 ∷ 1 ∷ 0 ∷ []
 
+-- kind, A, B and C
+abbrev pub fields : List ℕ → Fields
+fields ns = record { kind = get_or ns 0 0; a = get_or ns 1 0; b = get_or ns 2 0; c = get_or ns 3 0 }
+
 -- "A line checks 1, then the flag's 8, 2 or 3", and kind 5 its packet's
-unfoldable pub checked : Fields → Line
-checked (Fields-as-Read kind a b c) = cond (in_table kind a b c) (call_of kind a b c) (Refused 1)
-checked Unreadable = Refused 1
+unfoldable pub checked : Fields → Result Call Refusal
+checked f = if in_table f.kind f.a f.b f.c then call_of f.kind f.a f.b f.c else Err NotInShape
+
+-- "A kind 6 line that doesn't get code 1 empties the queue, whether or not another code follows."
+unfoldable pub refused : ℕ → Refusal → LineRefusal
+refused kind e = if eqb kind 6 && not (eqb (code e) 1) then LineRefusal-as-Report e else Other e
+
+abbrev pub told : ℕ → Result Call Refusal → Result Call LineRefusal
+told kind (Ok call) = Ok call
+told kind (Err e) = Err (refused kind e)
+
+unfoldable pub said : Option Fields → Result Call LineRefusal
+said (Some f) = told f.kind (checked f)
+said None = Err (Other NotInShape)
 
 -- what a line says, its newline left out
-unfoldable pub line_of : List ℕ → Line
-line_of s = checked (fields_of s)
+unfoldable pub line_of : List ℕ → Result Call LineRefusal
+line_of s = said (fields_of s)
 
 -- ---- for a private function alone: what it asks of widths
 

@@ -5,13 +5,13 @@
 ghost use Rattle.std.specs.Prelude.{◌≡◌, ◌*◌, ◌/◌, ◌%◌, ◌≤◌, ◌<◌, length};
 ghost use Rattle.call_line.specs.Column.{is_digit, digits_of, column, total};
 ghost use Rattle.call_line.specs.Digits.{last_digits};
-ghost use Rattle.call_line.specs.Line.{Four, zeros, flagged, allowed, fields_in, fields_of, in_table, rate_code, unless_refused, alr_of, capacity_of, packet_of};
-ghost use Rattle.call_line.specs.Line.{report_of, start_of, call_of, values_of, checked, line_of};
-ghost use Rattle.call_line.specs.Write.{call_refusal, write_refusal, written, ReadBack};
-ghost use Rattle.call_line.specs.declared.Fields.TheVariants.{Read};
+ghost use Rattle.call_line.specs.Line.{Four, zeros, flagged, allowed, fields_in, fields_of, in_table, check_bits, alr_of, capacity_of, packet_of};
+ghost use Rattle.call_line.specs.Line.{start_of, call_of, values_of, fields, checked, refused, line_of};
+ghost use Rattle.call_line.specs.Write.{write_outcome, written, ReadBack};
 
 use bandwidth::Bitrate;
 use packets::PacketSize;
+use refusal::Refusal;
 
 // A line's columns: kind, A, B and C.
 const COLUMNS: usize = 4;
@@ -28,17 +28,21 @@ pub const NARROW_WIDTH: usize = NARROW[0] + NARROW[1] + NARROW[2] + NARROW[3];
 // The digits of u64::MAX
 const MOST_DIGITS: usize = 20;
 
-// What a column says.
 #[derive(Clone, Copy)]
-pub enum Number {
-    Value(u64),
-    Wrong,
+struct Fields {
+    kind: u64,
+    a: u64,
+    b: u64,
+    c: u64,
 }
 
-#[derive(Clone, Copy)]
-enum Fields {
-    Read { kind: u64, a: u64, b: u64, c: u64 },
-    Unreadable,
+impl From<[u64; COLUMNS]> for Fields {
+    ghost from_gives = { λ values all. all ≡ fields values };
+
+    fn from(values: [u64; COLUMNS]) -> Fields {
+        let [kind, a, b, c] = values;
+        Fields { kind, a, b, c }
+    }
 }
 
 // Rates are the 64 bits of an f64, times are in ns, `lost` is 1 or 0. The last two start anew, with
@@ -62,40 +66,36 @@ pub enum Call {
     StartPackets,
 }
 
-// A call, or the number of the line's refusal. A report that is refused with another than 1 empties
-// the queue all the same.
+// Why a line is refused. A report that is in shape empties the queue all the same.
 #[derive(Clone, Copy)]
-pub enum Line {
-    Taken(Call),
-    Refused(u8),
-    ReportRefused(u8),
+pub enum LineRefusal {
+    Report(Refusal),
+    Other(Refusal),
 }
 
+#[tactic(auto, unfolding(crate::specs::Column::is_digit))]
 pub fn is_digit(byte: u8) -> bool
     ensures { result ≡ is_digit byte }
 {
-    if byte < b'0' {
-        return false;
-    }
-    byte <= b'9'
+    byte >= b'0' && byte <= b'9'
 }
 
-// The number in a column's digits. Wrong without digits, with a zero before others, with a byte that
+// The number in a column's digits. None without digits, with a zero before others, with a byte that
 // is no digit, and above 2^64 - 1.
 #[tactic(auto, using(crate::proofs::Reading::no_digits, crate::proofs::Reading::leading_zero, crate::proofs::Reading::too_many, crate::proofs::Reading::no_digit, crate::proofs::Reading::digit_bounds, crate::proofs::Reading::one_digit, crate::proofs::Reading::no_leading_zero))]
-pub fn read_number(digits: &[u8]) -> Number
+pub fn read_number(digits: &[u8]) -> Option<u64>
     ensures { result ≡ digits_of digits.now }
 {
     if digits.len() == 0 {
-        return Number::Wrong;
+        return None;
     }
     if digits.len() > 1 {
         if digits[0] == b'0' {
-            return Number::Wrong;
+            return None;
         }
     }
     if digits.len() > MOST_DIGITS {
-        return Number::Wrong;
+        return None;
     }
     let last = digits.len() - 1;
     let mut tens: u64 = 0;
@@ -105,241 +105,211 @@ pub fn read_number(digits: &[u8]) -> Number
         let byte = digits[i];
         i += 1;
         if !is_digit(byte) {
-            return Number::Wrong;
+            return None;
         }
         tens = tens * 10 + (byte - b'0') as u64;
     }
     if !is_digit(digits[last]) {
-        return Number::Wrong;
+        return None;
     }
     let digit = (digits[last] - b'0') as u64;
     if tens > (u64::MAX - digit) / 10 {
-        return Number::Wrong;
+        return None;
     }
-    Number::Value(tens * 10 + digit)
+    Some(tens * 10 + digit)
 }
 
 // The first wrong column ends the reading.
-fn read_columns(line: &[u8], widths: [usize; COLUMNS]) -> Fields
+fn read_columns(line: &[u8], widths: [usize; COLUMNS]) -> Option<Fields>
     requires { Four widths × (length line.now ≡ total widths) }
     ensures { result ≡ fields_in widths line.now }
 {
     let mut values = [0u64; COLUMNS];
     let mut from = 0;
-    let mut k = 0;
-    'columns: while k < COLUMNS {
+    for k in 0..COLUMNS {
         let to = from + widths[k];
-        let mut first = from;
         // Spaces up to the number; a blank column is wrong.
-        while line[first] == b' ' {
-            if first + 1 == to {
-                break 'columns;
-            }
-            first += 1;
-        }
-        match read_number(&line[first..to]) {
-            Number::Value(value) => {
-                values[k] = value;
-            }
-            Number::Wrong => {
-                break 'columns;
+        while line[from] == b' ' {
+            from += 1;
+            if from == to {
+                return None;
             }
         }
+        values[k] = read_number(&line[from..to])?;
         from = to;
-        k += 1;
     }
-    if k < COLUMNS {
-        return Fields::Unreadable;
-    }
-    let kind = values[0];
-    let a = values[1];
-    let b = values[2];
-    let c = values[3];
-    Fields::Read { kind, a, b, c }
+    Some(Fields::from(values))
 }
 
 // A line's length tells its columns.
-fn read_fields(line: &[u8]) -> Fields
+#[tactic(auto, using(crate::proofs::Columns::other_width), unfolding(crate::specs::Line::fields_of))]
+fn read_fields(line: &[u8]) -> Option<Fields>
     ensures { result ≡ fields_of line.now }
 {
-    let mut widths = WIDE;
-    if line.len() == NARROW_WIDTH {
-        widths = NARROW;
-    } else if line.len() != LINE_WIDTH {
-        return Fields::Unreadable;
+    match line.len() {
+        LINE_WIDTH => read_columns(line, WIDE),
+        NARROW_WIDTH => read_columns(line, NARROW),
+        _ => None,
     }
-    read_columns(line, widths)
 }
 
-// Both fields are 0.
 fn both_zero(one: u64, other: u64) -> bool
     ensures { result ≡ zeros one other }
 {
-    if one != 0 {
-        return false;
-    }
-    other == 0
+    one == 0 && other == 0
 }
 
 // C is 0, and A is 0 where the flag B is.
 fn a_with_flag(a: u64, b: u64, c: u64) -> bool
     ensures { result ≡ allowed flagged a b c }
 {
-    if c != 0 {
-        return false;
-    }
-    if b != 0 {
-        return true;
-    }
-    a == 0
+    c == 0 && (b != 0 || a == 0)
 }
 
-// Whether the table of kinds allows the fields.
-#[tactic(auto, using(crate::proofs::Table::rule_12, crate::proofs::Table::rule_34, crate::proofs::Table::rule_rest), unfolding(crate::specs::Line::in_table))]
-fn in_table(kind: u64, a: u64, b: u64, c: u64) -> bool
-    ensures { result ≡ in_table kind a b c }
+fn check_bits(bits: u64) -> Result<(), Refusal>
+    ensures { result ≡ check_bits bits }
 {
-    match kind {
-        1..=2 | 6 => both_zero(b, c),
-        3..=4 => a_with_flag(a, b, c),
-        5 => true,
-        7 => {
-            if a != 0 {
-                return false;
-            }
-            both_zero(b, c)
-        }
-        8 => both_zero(a, c),
-        _ => false,
-    }
-}
-
-fn rate_refusal(bits: u64) -> u8
-    ensures { result ≡ rate_code bits }
-{
-    let rate = Bitrate {
+    loss_controller::check_rate(Bitrate {
         bps: float::from_bits(bits),
-    };
-    loss_controller::rate_refusal(rate)
+    })
 }
 
-fn unless_refused(refusal: u8, call: Call) -> Line
-    ensures { result ≡ unless_refused refusal call }
-{
-    if refusal != 0 {
-        return Line::Refused(refusal);
-    }
-    Line::Taken(call)
-}
-
-fn alr(a: u64, b: u64) -> Line
+#[tactic(auto, unfolding(crate::specs::Line::alr_of, crate::specs::Line::by_flag, crate::specs::Line::unless_refused))]
+fn alr(a: u64, b: u64) -> Result<Call, Refusal>
     ensures { result ≡ alr_of a b }
 {
-    if b == 0 {
-        return Line::Taken(Call::AlrOff);
+    match b {
+        0 => Ok(Call::AlrOff),
+        1 => {
+            loss_controller::check_time(a)?;
+            Ok(Call::AlrOn(a))
+        }
+        _ => Err(Refusal::Flag),
     }
-    if b != 1 {
-        return Line::Refused(8);
-    }
-    let call = Call::AlrOn(a);
-    unless_refused(loss_controller::time_refusal(a), call)
 }
 
-fn capacity(a: u64, b: u64) -> Line
+#[tactic(auto, unfolding(crate::specs::Line::capacity_of, crate::specs::Line::by_flag, crate::specs::Line::unless_refused))]
+fn capacity(a: u64, b: u64) -> Result<Call, Refusal>
     ensures { result ≡ capacity_of a b }
 {
-    if b == 0 {
-        return Line::Taken(Call::CapacityNone);
+    match b {
+        0 => Ok(Call::CapacityNone),
+        1 => {
+            check_bits(a)?;
+            Ok(Call::CapacityIs(a))
+        }
+        _ => Err(Refusal::Flag),
     }
-    if b != 1 {
-        return Line::Refused(8);
-    }
-    let call = Call::CapacityIs(a);
-    unless_refused(rate_refusal(a), call)
 }
 
-// 3, 17 and 8, as the report's.
-fn packet(a: u64, b: u64, c: u64) -> Line
+// The checks are a report's of each packet.
+#[tactic(auto, unfolding(crate::specs::Line::packet_of, crate::specs::Line::unless_refused, packets::specs::Summary::check_packet))]
+fn packet(a: u64, b: u64, c: u64) -> Result<Call, Refusal>
     ensures { result ≡ packet_of a b c }
 {
     if a > packets::LATEST_TIME {
-        return Line::Refused(3);
+        return Err(Refusal::Time);
     }
     if c > packets::LARGEST_PACKET {
-        return Line::Refused(17);
+        return Err(Refusal::PacketSize);
     }
     if b > 1 {
-        return Line::Refused(8);
+        return Err(Refusal::Flag);
     }
-    Line::Taken(Call::Packet {
+    Ok(Call::Packet {
         time: a,
         lost: b as u8,
         size: c as PacketSize,
     })
 }
 
-fn report(a: u64) -> Line
-    ensures { result ≡ report_of a }
-{
-    let refusal = rate_refusal(a);
-    if refusal != 0 {
-        return Line::ReportRefused(refusal);
-    }
-    Line::Taken(Call::Report(a))
-}
-
 #[tactic(auto, unfolding(crate::specs::Line::start_of, crate::specs::Line::by_flag))]
-fn start(b: u64) -> Line
+fn start(b: u64) -> Result<Call, Refusal>
     ensures { result ≡ start_of b }
 {
     match b {
-        0 => Line::Taken(Call::StartBytes),
-        1 => Line::Taken(Call::StartPackets),
-        _ => Line::Refused(8),
+        0 => Ok(Call::StartBytes),
+        1 => Ok(Call::StartPackets),
+        _ => Err(Refusal::Flag),
     }
 }
 
-// The call of fields that the table allows.
-#[tactic(auto, using(crate::proofs::Table::call_rest), unfolding(crate::specs::Line::call_of))]
-fn call_of(kind: u64, a: u64, b: u64, c: u64) -> Line
-    ensures { result ≡ call_of kind a b c }
-{
-    match kind {
-        1 => {
-            let call = Call::Estimate(a);
-            unless_refused(rate_refusal(a), call)
+impl Fields {
+    // Whether the table of kinds allows them.
+    #[tactic(auto, using(crate::proofs::Table::rule_12, crate::proofs::Table::rule_34, crate::proofs::Table::rule_rest), unfolding(crate::specs::Line::in_table))]
+    fn in_table(self) -> bool
+        ensures { result ≡ in_table self.kind self.a self.b self.c }
+    {
+        match self.kind {
+            1..=2 | 6 => both_zero(self.b, self.c),
+            3..=4 => a_with_flag(self.a, self.b, self.c),
+            5 => true,
+            7 => self.a == 0 && both_zero(self.b, self.c),
+            8 => both_zero(self.a, self.c),
+            _ => false,
         }
-        2 => {
-            let call = Call::Acknowledged(a);
-            unless_refused(rate_refusal(a), call)
+    }
+
+    // The call, where the table allows them.
+    #[tactic(auto, using(crate::proofs::Table::call_rest), unfolding(crate::specs::Line::call_of, crate::specs::Line::unless_refused))]
+    fn call(self) -> Result<Call, Refusal>
+        ensures { result ≡ call_of self.kind self.a self.b self.c }
+    {
+        let Fields { kind, a, b, c } = self;
+        match kind {
+            1 => {
+                check_bits(a)?;
+                Ok(Call::Estimate(a))
+            }
+            2 => {
+                check_bits(a)?;
+                Ok(Call::Acknowledged(a))
+            }
+            3 => alr(a, b),
+            4 => capacity(a, b),
+            5 => packet(a, b, c),
+            6 => {
+                check_bits(a)?;
+                Ok(Call::Report(a))
+            }
+            7 => Ok(Call::Read),
+            8 => start(b),
+            _ => Err(Refusal::NotInShape),
         }
-        3 => alr(a, b),
-        4 => capacity(a, b),
-        5 => packet(a, b, c),
-        6 => report(a),
-        7 => Line::Taken(Call::Read),
-        8 => start(b),
-        _ => Line::Refused(1),
+    }
+
+    #[tactic(auto, unfolding(crate::specs::Line::checked))]
+    fn checked(self) -> Result<Call, Refusal>
+        ensures { result ≡ checked self }
+    {
+        if !self.in_table() {
+            return Err(Refusal::NotInShape);
+        }
+        self.call()
     }
 }
 
-// The call of any four fields, or the refusal.
-fn checked(kind: u64, a: u64, b: u64, c: u64) -> Line
-    ensures { result ≡ checked (Read kind a b c) }
+#[tactic(auto, unfolding(crate::specs::Line::refused))]
+fn refused(kind: u64, refusal: Refusal) -> LineRefusal
+    ensures { result ≡ refused kind refusal }
 {
-    if !in_table(kind, a, b, c) {
-        return Line::Refused(1);
+    if kind == 6 && refusal != Refusal::NotInShape {
+        return LineRefusal::Report(refusal);
     }
-    call_of(kind, a, b, c)
+    LineRefusal::Other(refusal)
 }
 
 // What a line says, its newline left out.
-pub fn read_line(line: &[u8]) -> Line
+#[tactic(auto, unfolding(crate::specs::Line::line_of, crate::specs::Line::said))]
+pub fn read_line(line: &[u8]) -> Result<Call, LineRefusal>
     ensures { result ≡ line_of line.now }
 {
-    match read_fields(line) {
-        Fields::Read { kind, a, b, c } => checked(kind, a, b, c),
-        Fields::Unreadable => Line::Refused(1),
+    let Some(fields) = read_fields(line) else {
+        return Err(LineRefusal::Other(Refusal::NotInShape));
+    };
+    match fields.checked() {
+        Ok(call) => Ok(call),
+        Err(refusal) => Err(refused(fields.kind, refusal)),
     }
 }
 
@@ -470,40 +440,23 @@ fn values(call: Call) -> [u64; COLUMNS]
     }
 }
 
-// The number with which the reader would turn the call down, 0 if it would not.
-fn call_refusal(call: Call) -> u8
-    ensures { result ≡ call_refusal call }
-{
-    let values = values(call);
-    match checked(values[0], values[1], values[2], values[3]) {
-        Line::Taken(_) => 0,
-        Line::Refused(refusal) => refusal,
-        Line::ReportRefused(refusal) => refusal,
-    }
-}
-
-// Writes the call's line, with its newline, at the start of out, and answers 0; or answers the refusal
-// and writes nothing: the reader's number, or 13 where there is no room.
-pub fn write_line(call: Call, out: &mut [u8]) -> u8
-    ensures value { (result ≡ write_refusal call (length out.old)) × (out.new ≡ written call out.old) }
+// Writes the call's line, with its newline, at the start of out. Where it is refused nothing is
+// written: the reader's checks come first, and then the room.
+pub fn write_line(call: Call, out: &mut [u8]) -> Result<(), Refusal>
+    ensures value { (result ≡ write_outcome call (length out.old)) × (out.new ≡ written call out.old) }
     ensures read_back { ReadBack call result out.new }
 {
-    let refusal = call_refusal(call);
-    if refusal != 0 {
-        return refusal;
-    }
-    if out.len() <= LINE_WIDTH {
-        return 13;
-    }
     let values = values(call);
+    Fields::from(values).checked()?;
+    if out.len() <= LINE_WIDTH {
+        return Err(Refusal::NoRoom);
+    }
     let mut from = 0;
-    let mut k = 0;
-    while k < COLUMNS {
+    for k in 0..COLUMNS {
         let to = from + WIDE[k];
         write_number(&mut out[from..to], values[k]);
         from = to;
-        k += 1;
     }
     out[from] = b'\n';
-    0
+    Ok(())
 }

@@ -12,8 +12,9 @@ use lib.Seq.{drop-drop, length-take-le}
 use Rattle.call_line.specs.Column.{column}
 use Rattle.call_line.specs.Line.{line_of}
 use Rattle.call_line.specs.declared.Call.{Call}
-use Rattle.call_line.specs.declared.Line.{Line}
-use Rattle.call_line.specs.declared.Line.TheVariants.{Taken}
+use Rattle.std.proofs.Common.{Result, Ok}
+use Rattle.refusal.specs.Outcome.{number}
+use Rattle.call_line.specs.declared.LineRefusal.{LineRefusal}
 use Rattle.buffer.specs.Laid.{laid}
 use Rattle.buffer.proofs.Laying.{take_laid, drop_laid, length_laid}
 use Rattle.call_list.specs.declared.Session.{Session}
@@ -68,9 +69,9 @@ runs_end r s i h = rw (drop_of_length-le s h)
 
 -- a line told is an answer given
 told_here :
-    (line : List ℕ) (len : ℕ) (s : Session) (ts ss fs out : List ℕ) (l : Line) (a : LineAnswer) (ts' ss' fs' : List ℕ)
+    (line : List ℕ) (len : ℕ) (s : Session) (ts ss fs out : List ℕ) (l : Result Call LineRefusal) (a : LineAnswer) (ts' ss' fs' : List ℕ)
     → After a ts' ss' fs' (after_of (machine_of s ts ss fs) l)
-    → told (here line len s ts ss fs out) l ≡ here blank 0 a.session ts' ss' fs' (out ++ row_of a.answer.refusal a.answer.reading)
+    → told (here line len s ts ss fs out) l ≡ here blank 0 a.session ts' ss' fs' (out ++ row_of a.outcome a.session.reading)
 told_here line len s ts ss fs out l a ts' ss' fs' t = rw (t.answer, t.times, t.sizes, t.flags)
 
 module _
@@ -85,14 +86,14 @@ module _
 
     -- the line l ends before the byte j, is answered by a, and its row is written
     pub one_line :
-        (l : Line) (j : ℕ) → i < j → j ≤ length chunk → runs now (drop i chunk) ≡ runs (told now l) (drop j chunk)
+        (l : Result Call LineRefusal) (j : ℕ) → i < j → j ≤ length chunk → runs now (drop i chunk) ≡ runs (told now l) (drop j chunk)
         → (a : LineAnswer) (ts' ss' fs' out' row : List ℕ) → After a ts' ss' fs' (after_of (machine_of s ts ss fs) l)
-        → row ≡ text_of a.answer.reading → out' ≡ laid w (column 2 a.answer.refusal ++ row) out
+        → row ≡ text_of a.session.reading → out' ≡ laid w (column 2 (number a.outcome) ++ row) out
         → At chunk out₀ end ts' ss' fs' out' blank 0 a.session (w + row_width) j
     unfolding row_of
     one_line l j more within run a ts' ss' fs' out' row t f o =
-        let y = row_of a.answer.refusal a.answer.reading in
-        let z : out' ≡ laid w y out = o ∙ ap (λ (u : List ℕ). laid w (column 2 a.answer.refusal ++ u) out) f in
+        let y = row_of a.outcome a.session.reading in
+        let z : out' ≡ laid w y out = o ∙ ap (λ (u : List ℕ). laid w (column 2 (number a.outcome) ++ u) out) f in
         let v : take (w + row_width) out' ≡ take w out ++ y = ap (take (w + row_width)) z ∙ take_laid w row_width y out (length_row _ _) row_fits in
         record {
           read = within;
@@ -112,8 +113,8 @@ module _
 
     -- the next line stands whole in the chunk
     pub line_stands :
-        (call : Call) (width : ℕ) → Stands width (drop i chunk) → len ≡ 0 → line_of (take width (drop i chunk)) ≡ Taken call
-        → runs now (drop i chunk) ≡ runs (told now (Taken call)) (drop (i + width + 1) chunk)
+        (call : Call) (width : ℕ) → Stands width (drop i chunk) → len ≡ 0 → line_of (take width (drop i chunk)) ≡ Ok call
+        → runs now (drop i chunk) ≡ runs (told now (Ok call)) (drop (i + width + 1) chunk)
     line_stands call width e z t =
         let k : i + (width + 1) ≡ i + width + 1 = omega arith in
         whole_line width (drop i chunk) e now call z h.whole t ∙ rw (drop-drop, k)
@@ -237,12 +238,12 @@ module _ (p : State) (ts₀ ss₀ fs₀ o₀ : List ℕ) where
       (s : Session) (a : LineAnswer) (ts ss fs o : List ℕ) → roomy p.len 1 (length o₀) ≡ true → (p.len ≡ 0 → ⊥)
       → s.controller ≡ p.controller → s.queued ≡ p.queued
       → After a ts ss fs (after_of (machine_of s ts₀ ss₀ fs₀) (line_of (take p.len p.line)))
-      → o ≡ laid 0 (row_of a.answer.refusal a.answer.reading) o₀
+      → o ≡ laid 0 (row_of a.outcome a.session.reading) o₀
       → Finishes
       (record { taken = true; state = record { line = blank; len = 0; controller = a.session.controller; queued = a.session.queued }; written = row_width })
       ts ss fs o p ts₀ ss₀ fs₀ o₀
   line_finished s a ts ss fs o e n z y t q =
-      let row = row_of a.answer.refusal a.answer.reading in
+      let row = row_of a.outcome a.session.reading in
       let d = rw (z, y) at (told_here p.line p.len s ts₀ ss₀ fs₀ [] (line_of (take p.len p.line)) a ts ss fs t) in
       record {
         taken = sym e;
@@ -252,7 +253,7 @@ module _ (p : State) (ts₀ ss₀ fs₀ o₀ : List ℕ) where
             (rw d
             (record {
               state = refl;
-              written = sym (length_row a.answer.refusal a.answer.reading);
+              written = sym (length_row a.outcome a.session.reading);
               times = refl;
               sizes = refl;
               flags = refl;

@@ -7,6 +7,8 @@ use Rattle.buffer.specs.Laid.{laid}
 use Rattle.buffer.proofs.Laying.{laid_next, length_next}
 use Rattle.call_line.specs.Column.{column}
 use Rattle.call_line.proofs.RoundTrip.{length_column}
+use Rattle.std.proofs.Common.{Result}
+use Rattle.refusal.specs.declared.Refusal.{Refusal}
 use Rattle.call_list.specs.declared.Reading.{Reading}
 use Rattle.call_list.specs.Answer.{text_width, text_of, row_of}
 use Rattle.call_list.specs.Feed.{row_width}
@@ -30,6 +32,6 @@ pub length_text : (r : Reading) → length (text_of r) ≡ text_width
 unfolding text_of
 length_text r = simp (length-append, length_column)
 
-pub length_row : (refusal : ℕ) (r : Reading) → length (row_of refusal r) ≡ row_width
+pub length_row : (outcome : Result (Unit {0}) Refusal) (r : Reading) → length (row_of outcome r) ≡ row_width
 unfolding row_of
-length_row refusal r = simp (length-append, length_column, length_text)
+length_row outcome r = simp (length-append, length_column, length_text)

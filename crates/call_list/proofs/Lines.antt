@@ -14,7 +14,7 @@ use Rattle.call_line.specs.Column.{total}
 use Rattle.call_line.specs.Line.{wide, narrow, line_of}
 use Rattle.call_line.proofs.Clear.{Clear, taken_clear}
 use Rattle.call_line.specs.declared.Call.{Call}
-use Rattle.call_line.specs.declared.Line.TheVariants.{Taken}
+use Rattle.std.proofs.Common.{Ok}
 use Rattle.call_list.specs.Feed.{Run, kept, pushed, told, step, runs}
 use Rattle.call_list.specs.Pieces.{next_of, newline_behind, standing}
 
@@ -87,8 +87,8 @@ stands s w e h = rw e (pick (newline_behind (total narrow) s) (newline_behind (t
 
 -- and is taken
 pub whole_line :
-    (w : ℕ) (s : List ℕ) → Stands w s → (r : Run) (call : Call) → r.len ≡ 0 → length r.line ≡ kept → line_of (take w s) ≡ Taken call
-    → runs r s ≡ runs (told r (Taken call)) (drop (w + 1) s)
+    (w : ℕ) (s : List ℕ) → Stands w s → (r : Run) (call : Call) → r.len ≡ 0 → length r.line ≡ kept → line_of (take w s) ≡ Ok call
+    → runs r s ≡ runs (told r (Ok call)) (drop (w + 1) s)
 whole_line w s h r call z p t =
     let parts : s ≡ take w s ++ (10 ∷ drop (w + 1) s) =
     sym (take-append-drop w s) ∙ ap (λ (x : List ℕ). take w s ++ x) (drop-cons s w 0 h.long ∙ rw (h.newline, add-one)) in

@@ -271,7 +271,7 @@ first_lines (suc n) m [] = take-nil (suc n * row_width)
 first_lines (suc n) m (l ∷ ls) =
     let a = answered_line m l in
     let rest = joined (answers_to a.machine ls) in
-    let z : length (answer_row a) ≡ row_width = length_row a.refusal (reading_of a.machine.controller) in
+    let z : length (answer_row a) ≡ row_width = length_row a.outcome (reading_of a.machine.controller) in
     let k : suc n * row_width ≡ length (answer_row a) + n * row_width = omega arith in
     ap (λ (j : ℕ). take j (answer_row a ++ rest)) k
     ∙ take-append-add (answer_row a) rest (n * row_width)

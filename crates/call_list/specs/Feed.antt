@@ -1,9 +1,10 @@
 -- The program byte by byte, and what its functions leave. Definitions only.
-use Rattle.std.specs.Prelude.{ℕ, ◌+◌, ◌/◌, ◌≡◌, Bool, true, cond, ◌&&◌, List, [], ◌∷◌, ◌++◌, eqb, leb, ltb, length, take, drop, set, replicate}
+use Rattle.std.specs.Prelude.{ℕ, ◌+◌, ◌/◌, ◌≡◌, Bool, true, if◌then◌else◌, ◌&&◌, Result, List, [], ◌∷◌, ◌++◌, eqb, leb, ltb, length, take, drop, set, replicate}
 use Rattle.loss_controller.specs.Controller.{initial}
 use Rattle.call_line.specs.Column.{total}
 use Rattle.call_line.specs.Line.{line_of, wide}
-use Rattle.call_line.specs.declared.Line.{Line}
+use Rattle.call_line.specs.declared.Call.{Call}
+use Rattle.call_line.specs.declared.LineRefusal.{LineRefusal}
 use Rattle.call_list.specs.declared.State.{State}
 use Rattle.call_list.specs.declared.Fed.{Fed}
 use Rattle.call_list.specs.Answer.{Machine, answer_widths, queue_of, after_of, reading_of, row_of}
@@ -28,26 +29,26 @@ pub record Run : Type 0 where
 
 -- a byte of a line; one that finds no room is not kept
 abbrev pub pushed_line : List ℕ → ℕ → ℕ → List ℕ
-pushed_line line len b = cond (ltb len kept) (set line len b) line
+pushed_line line len b = if ltb len kept then set line len b else line
 
 abbrev pub pushed_len : ℕ → ℕ
-pushed_len len = cond (ltb len kept) (len + 1) len
+pushed_len len = if ltb len kept then len + 1 else len
 
 abbrev pub pushed : Run → ℕ → Run
 pushed r b =
     record { line = pushed_line r.line r.len b; len = pushed_len r.len; machine = r.machine; out = r.out }
 
 -- the line so far is l, and has ended
-abbrev pub told : Run → Line → Run
+abbrev pub told : Run → Result Call LineRefusal → Run
 told r l =
     let a = after_of r.machine l in
-    record { line = blank; len = 0; machine = a.machine; out = r.out ++ row_of a.refusal (reading_of a.machine.controller) }
+    record { line = blank; len = 0; machine = a.machine; out = r.out ++ row_of a.outcome (reading_of a.machine.controller) }
 
 abbrev pub ended : Run → Run
 ended r = told r (line_of (take r.len r.line))
 
 unfoldable pub step : Run → ℕ → Run
-step r b = cond (eqb b 10) (ended r) (pushed r b)
+step r b = if eqb b 10 then ended r else pushed r b
 
 unfoldable pub runs : Run → List ℕ → Run
 runs r [] = r
@@ -55,7 +56,7 @@ runs r (b ∷ s) = runs (step r b) s
 
 -- the end of the input: a line that lacks its newline counts
 abbrev pub finished : Run → Run
-finished r = cond (eqb r.len 0) r (ended r)
+finished r = if eqb r.len 0 then r else ended r
 
 -- ---- what the functions leave
 
@@ -89,8 +90,8 @@ roomy len n room = leb len kept && leb n (room / row_width)
 -- `feed` takes the chunk s, or is where it was
 pub record Feeds (f : Fed) (ts ss fs o : List ℕ) (p : State) (ts₀ ss₀ fs₀ s o₀ : List ℕ) : Type 0 where
   pub taken : f.taken ≡ roomy p.len (length s) (length o₀)
-  pub by : FedBy f ts ss fs o (cond (roomy p.len (length s) (length o₀)) (runs (start_of p ts₀ ss₀ fs₀) s) (start_of p ts₀ ss₀ fs₀)) o₀
+  pub by : FedBy f ts ss fs o (if roomy p.len (length s) (length o₀) then runs (start_of p ts₀ ss₀ fs₀) s else start_of p ts₀ ss₀ fs₀) o₀
 
 pub record Finishes (f : Fed) (ts ss fs o : List ℕ) (p : State) (ts₀ ss₀ fs₀ o₀ : List ℕ) : Type 0 where
   pub taken : f.taken ≡ roomy p.len 1 (length o₀)
-  pub by : FedBy f ts ss fs o (cond (roomy p.len 1 (length o₀)) (finished (start_of p ts₀ ss₀ fs₀)) (start_of p ts₀ ss₀ fs₀)) o₀
+  pub by : FedBy f ts ss fs o (if roomy p.len 1 (length o₀) then finished (start_of p ts₀ ss₀ fs₀) else start_of p ts₀ ss₀ fs₀) o₀

@@ -1,35 +1,24 @@
 -- The pieces that `feed` is made of, `read_on` among them. Definitions only.
-use Rattle.std.specs.Prelude.{ℕ, ◌+◌, ◌*◌, ◌≤◌, ◌≡◌, Bool, true, false, cond, ◌&&◌, List, [], ◌∷◌, eqb, ltb, length, take, drop, get_or}
-use Rattle.loss_controller.specs.declared.ControllerAnswer.{ControllerAnswer}
+use Rattle.std.specs.Prelude.{ℕ, ◌+◌, ◌*◌, ◌≤◌, ◌≡◌, Bool, true, false, if◌then◌else◌, ◌&&◌, List, [], ◌∷◌, eqb, ltb, length, take, drop, get_or}
 use Rattle.call_line.specs.Column.{total}
 use Rattle.call_line.specs.Line.{wide, narrow}
-use Rattle.call_list.specs.declared.Reading.{Reading}
 use Rattle.call_list.specs.declared.Session.{Session}
-use Rattle.call_list.specs.declared.LineAnswer.{LineAnswer}
 use Rattle.call_list.specs.declared.Quiet.{Quiet}
 use Rattle.call_list.specs.declared.Next.{Next}
 use Rattle.call_list.specs.Answer.{places, machine_of, reading_of}
 use Rattle.call_list.specs.Split.{Queued}
 use Rattle.call_list.specs.Feed.{Run, kept, row_width, pushed_line, pushed_len, runs}
 
--- what a line leaves without the controller
-pub record QuietBy (r : Quiet) (ts ss fs : List ℕ) (calls : Bool) (q : Queued) : Type 0 where
-  pub quiet : r ≡ record { calls = calls; refusal = q.refusal; queued = q.queue.count }
+-- what a call leaves without the controller
+pub record QuietBy (r : Quiet) (ts ss fs : List ℕ) (q : Queued) : Type 0 where
+  pub quiet : r ≡ record { outcome = q.outcome; queued = q.queue.count }
   pub times : ts ≡ q.queue.times
   pub sizes : ss ≡ q.queue.sizes
   pub flags : fs ≡ q.queue.flags
 
--- what a line answers that calls the controller; n packets are queued then
-abbrev pub called_by : ControllerAnswer → ℕ → LineAnswer
-called_by a n =
-    record {
-      session = record { controller = a.controller; reading = reading_of a.controller; queued = n };
-      answer = record { refusal = a.refusal; reading = reading_of a.controller };
-    }
-
 -- how many packets the queue has: all its places where more are counted
 abbrev pub held : ℕ → ℕ
-held n = cond (ltb places n) places n
+held n = if ltb places n then places else n
 
 -- ---- a line that ends in the bytes s
 
@@ -37,9 +26,8 @@ held n = cond (ltb places n) places n
 unfoldable pub next_of : List ℕ → ℕ → ℕ → List ℕ → Next
 next_of line len i [] = record { line = line; len = len; read = i; ended = false }
 next_of line len i (b ∷ s) =
-    cond (eqb b 10)
-    (record { line = line; len = len; read = i + 1; ended = true })
-    (next_of (pushed_line line len b) (pushed_len len) (i + 1) s)
+    if eqb b 10 then record { line = line; len = len; read = i + 1; ended = true }
+    else next_of (pushed_line line len b) (pushed_len len) (i + 1) s
 
 -- ---- lines that stand whole in them
 
@@ -49,11 +37,8 @@ newline_behind w s = ltb w (length s) && eqb (get_or s w 0) 10
 
 -- how wide a line may be that starts there: narrow where a newline stands behind so many bytes, else wide, and 0 where neither can be
 unfoldable pub standing : List ℕ → ℕ
-standing s = cond (newline_behind (total narrow) s) (total narrow) (cond (newline_behind (total wide) s) (total wide) 0)
-
-unfoldable pub same_reading : Reading → Reading → Bool
-same_reading a b =
-    eqb a.rate b.rate && (eqb a.inherent_loss b.inherent_loss && (eqb a.state b.state && eqb a.published b.published))
+standing s =
+    if newline_behind (total narrow) s then total narrow else (if newline_behind (total wide) s then total wide else 0)
 
 -- ---- a chunk that is partly answered
 

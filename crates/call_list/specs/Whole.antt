@@ -1,5 +1,5 @@
 -- The whole input: its lines, and the answers to them. Definitions only.
-use Rattle.std.specs.Prelude.{ℕ, ◌≡◌, true, cond, List, [], ◌∷◌, ◌++◌, eqb, take, replicate}
+use Rattle.std.specs.Prelude.{ℕ, ◌≡◌, true, if◌then◌else◌, List, [], ◌∷◌, ◌++◌, eqb, take, replicate}
 use Rattle.loss_controller.specs.Controller.{initial}
 use Rattle.call_line.specs.Line.{line_of}
 use Rattle.call_list.specs.Answer.{Machine, Answered, places, queue_of, after_of, reading_of, row_of}
@@ -15,7 +15,7 @@ last_line (b ∷ l) = (b ∷ l) ∷ []
 -- the lines of the input s, where l is the line so far
 unfoldable pub lines_from : List ℕ → List ℕ → List (List ℕ)
 lines_from l [] = last_line l
-lines_from l (b ∷ s) = cond (eqb b 10) (l ∷ lines_from [] s) (lines_from (l ++ (b ∷ [])) s)
+lines_from l (b ∷ s) = if eqb b 10 then (l ∷ lines_from [] s) else lines_from (l ++ (b ∷ [])) s
 
 abbrev pub lines_of : List ℕ → List (List ℕ)
 lines_of input = lines_from [] input
@@ -25,7 +25,7 @@ answered_line m l = after_of m (line_of l)
 
 -- "all but the refusal are read from the controller after the line, refused or not"
 abbrev pub answer_row : Answered → List ℕ
-answer_row a = row_of a.refusal (reading_of a.machine.controller)
+answer_row a = row_of a.outcome (reading_of a.machine.controller)
 
 -- the answers to lines, one after another
 unfoldable pub answers_to : Machine → List (List ℕ) → List (List ℕ)

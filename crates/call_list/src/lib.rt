@@ -2,7 +2,10 @@
 // lists"). The queue is three columns that the caller lends.
 #![tactic(auto)]
 
-ghost use Rattle.std.specs.Prelude.{◌≡◌, true, false, ◌+◌, ◌-◌, ◌*◌, ◌≤◌, ◌++◌, length, take, drop};
+ghost use Rattle.std.specs.Prelude.{◌≡◌, true, false, ◌+◌, ◌-◌, ◌*◌, ◌≤◌, ◌++◌, length, take, drop, option_map};
+ghost use Rattle.std.specs.Float.{binary64};
+ghost use Rattle.std.specs.Float.Ieee.{to_bits};
+ghost use Rattle.refusal.specs.Outcome.{number};
 ghost use Rattle.loss_controller.specs.Setters.{rate_of};
 ghost use Rattle.buffer.specs.Laid.{laid};
 ghost use Rattle.call_line.specs.Column.{column};
@@ -12,10 +15,12 @@ ghost use Rattle.call_list.specs.Split as Split;
 ghost use Rattle.call_list.specs.Feed as Feeding;
 ghost use Rattle.call_list.specs.Pieces as Pieces;
 
-use bandwidth::{Bitrate, OptionBitrate};
-use call_line::{Call, Line};
-use loss_controller::{ControllerAnswer, LossController, OptionInstant};
+use bandwidth::Bitrate;
+use call_line::{Call, LineRefusal};
+use estimator::LossControllerState;
+use loss_controller::LossController;
 use packets::PacketSize;
+use refusal::Refusal;
 
 // The queue's places
 pub const PLACES: usize = packets::MOST_PACKETS_IN_REPORT;
@@ -42,15 +47,12 @@ const TEXT: usize = INHERENT_LOSS_END + 1;
 // The bytes of an answer
 pub const ROW: usize = REFUSAL_WIDTH + TEXT;
 
-// The number of the refusal where the queue is full
-const FULL: u8 = 12;
-
-// What an answer reads of the controller
-#[derive(Clone, Copy)]
+// What an answer reads of the controller: the rate and the inherent loss by the bits of their
+// floats, no rate where none is published.
+#[derive(Clone, Copy, PartialEq)]
 struct Reading {
-    state: u8,
-    published: u8,
-    rate: u64,
+    state: LossControllerState,
+    rate: Option<u64>,
     inherent_loss: u64,
 }
 
@@ -63,80 +65,43 @@ struct Session {
     queued: usize,
 }
 
-// The five numbers of an answer
-#[derive(Clone, Copy)]
-struct Answer {
-    refusal: u8,
-    reading: Reading,
-}
-
 #[derive(Clone, Copy)]
 struct LineAnswer {
     session: Session,
-    answer: Answer,
+    outcome: Result<(), Refusal>,
 }
 
 // ---- the reading
 
+#[tactic(auto, unfolding(crate::specs::Answer::reading_of))]
 fn read(controller: LossController) -> Reading
     ensures { result ≡ Answers.reading_of controller }
 {
     let result = controller.loss_based_result();
-    let state = result.state;
-    let rate = result.bandwidth_estimate;
     Reading {
-        state: state.number(),
-        published: published(rate),
-        rate: rate_bits(rate),
+        state: result.state,
+        rate: rate_bits(result.bandwidth_estimate),
         inherent_loss: float::to_bits(controller.inherent_loss()),
     }
 }
 
-fn published(rate: OptionBitrate) -> u8
-    ensures { result ≡ Answers.published rate }
+fn rate_bits(rate: Option<Bitrate>) -> Option<u64>
+    ensures { result ≡ option_map (λ r. to_bits binary64 r.bps) rate }
 {
-    match rate {
-        OptionBitrate::Some(_) => 1,
-        OptionBitrate::None => 0,
-    }
-}
-
-fn rate_bits(rate: OptionBitrate) -> u64
-    ensures { result ≡ Answers.rate_bits rate }
-{
-    match rate {
-        OptionBitrate::Some(rate) => float::to_bits(rate.as_f64()),
-        OptionBitrate::None => 0,
-    }
+    let rate = rate?;
+    Some(float::to_bits(rate.as_f64()))
 }
 
 // ---- the queue
 
-// What a line leaves without the controller. The refusal is that of a line that does not call it.
+// What a call leaves of the queue, and its outcome; none where the controller is to answer.
 #[derive(Clone, Copy)]
 struct Quiet {
-    calls: bool,
-    refusal: u8,
+    outcome: Option<Result<(), Refusal>>,
     queued: usize,
 }
 
-fn quiet_line(
-    queued: usize,
-    times: &mut [u64; PLACES],
-    sizes: &mut [PacketSize; PLACES],
-    flags: &mut [u8; PLACES],
-    line: Line,
-) -> Quiet
-    ensures { Pieces.QuietBy result times.new sizes.new flags.new (Split.calls line)
-        (Split.line_queued (Answers.queue_of queued times.old sizes.old flags.old) line) }
-{
-    match line {
-        Line::Taken(call) => quiet_call(queued, times, sizes, flags, call),
-        Line::Refused(refusal) => left(refusal, queued),
-        Line::ReportRefused(refusal) => left(refusal, 0),
-    }
-}
-
+#[tactic(auto, unfolding(crate::specs::Split::call_queued))]
 fn quiet_call(
     queued: usize,
     times: &mut [u64; PLACES],
@@ -144,46 +109,43 @@ fn quiet_call(
     flags: &mut [u8; PLACES],
     call: Call,
 ) -> Quiet
-    ensures { Pieces.QuietBy result times.new sizes.new flags.new (Split.call_calls call)
+    ensures { Pieces.QuietBy result times.new sizes.new flags.new
         (Split.call_queued (Answers.queue_of queued times.old sizes.old flags.old) call) }
 {
     match call {
         Call::Packet { time, lost, size } => {
             queue_packet(queued, times, sizes, flags, time, lost, size)
         }
-        Call::Read => left(0, queued),
-        Call::Report(_) => calling(0),
-        Call::Estimate(_) => calling(queued),
-        Call::Acknowledged(_) => calling(queued),
-        Call::AlrOn(_) => calling(queued),
-        Call::AlrOff => calling(queued),
-        Call::CapacityIs(_) => calling(queued),
-        Call::CapacityNone => calling(queued),
-        Call::StartBytes => calling(0),
-        Call::StartPackets => calling(0),
+        Call::Read => left(Ok(()), queued),
+        Call::Report(_) | Call::StartBytes | Call::StartPackets => asking(0),
+        Call::Estimate(_)
+        | Call::Acknowledged(_)
+        | Call::AlrOn(_)
+        | Call::AlrOff
+        | Call::CapacityIs(_)
+        | Call::CapacityNone => asking(queued),
     }
 }
 
-fn left(refusal: u8, queued: usize) -> Quiet
-    ensures { result ≡ record { calls = false; refusal = refusal; queued = queued } }
+fn left(outcome: Result<(), Refusal>, queued: usize) -> Quiet
+    ensures { result ≡ record { outcome = Some outcome; queued = queued } }
 {
     Quiet {
-        calls: false,
-        refusal,
+        outcome: Some(outcome),
         queued,
     }
 }
 
-fn calling(queued: usize) -> Quiet
-    ensures { result ≡ record { calls = true; refusal = 0; queued = queued } }
+fn asking(queued: usize) -> Quiet
+    ensures { result ≡ record { outcome = None; queued = queued } }
 {
     Quiet {
-        calls: true,
-        refusal: 0,
+        outcome: None,
         queued,
     }
 }
 
+#[tactic(auto, unfolding(crate::specs::Split::packet_queued))]
 fn queue_packet(
     queued: usize,
     times: &mut [u64; PLACES],
@@ -193,16 +155,16 @@ fn queue_packet(
     lost: u8,
     size: PacketSize,
 ) -> Quiet
-    ensures { Pieces.QuietBy result times.new sizes.new flags.new false
+    ensures { Pieces.QuietBy result times.new sizes.new flags.new
         (Split.packet_queued (Answers.queue_of queued times.old sizes.old flags.old) time lost size) }
 {
     if queued >= PLACES {
-        return left(FULL, queued);
+        return left(Err(Refusal::QueueFull), queued);
     }
     times[queued] = time;
     sizes[queued] = size;
     flags[queued] = lost;
-    left(0, queued + 1)
+    left(Ok(()), queued + 1)
 }
 
 // ---- the controller
@@ -210,15 +172,8 @@ fn queue_packet(
 fn rate(bits: u64) -> Bitrate
     ensures { result ≡ rate_of bits }
 {
-    Bitrate::from_f64(float::from_bits(bits))
-}
-
-fn answered(controller: LossController) -> ControllerAnswer
-    ensures { result ≡ record { controller = controller; refusal = 0 } }
-{
-    ControllerAnswer {
-        controller,
-        refusal: 0,
+    Bitrate {
+        bps: float::from_bits(bits),
     }
 }
 
@@ -239,7 +194,7 @@ fn report(
     sizes: &[PacketSize],
     flags: &[u8],
     delay: Bitrate,
-) -> ControllerAnswer
+) -> Result<LossController, Refusal>
     requires { (length times.now ≡ Answers.places) × (length sizes.now ≡ Answers.places) × (length flags.now ≡ Answers.places) }
     ensures { result ≡ Answers.report_of controller (Answers.queue_of queued times.now sizes.now flags.now) delay }
 {
@@ -247,6 +202,7 @@ fn report(
     controller.update_bandwidth_estimate(&times[..n], &sizes[..n], &flags[..n], delay)
 }
 
+#[tactic(auto, unfolding(crate::specs::Split::call_controlled))]
 fn control_call(
     controller: LossController,
     queued: usize,
@@ -254,113 +210,72 @@ fn control_call(
     sizes: &[PacketSize; PLACES],
     flags: &[u8; PLACES],
     call: Call,
-) -> ControllerAnswer
+) -> Result<LossController, Refusal>
     ensures { result ≡ Split.call_controlled controller (Answers.queue_of queued times.now sizes.now flags.now) call }
 {
     match call {
         Call::Estimate(bits) => controller.set_bandwidth_estimate(rate(bits)),
         Call::Acknowledged(bits) => controller.set_acknowledged_bitrate(rate(bits)),
-        Call::AlrOn(start) => controller.set_alr_start_time(OptionInstant::Some(start)),
-        Call::AlrOff => controller.set_alr_start_time(OptionInstant::None),
-        Call::CapacityIs(bits) => {
-            let capacity = OptionBitrate::Some(rate(bits));
-            controller.set_link_capacity_estimate(capacity)
-        }
-        Call::CapacityNone => controller.set_link_capacity_estimate(OptionBitrate::None),
+        Call::AlrOn(start) => controller.set_alr_start_time(Some(start)),
+        Call::AlrOff => controller.set_alr_start_time(None),
+        Call::CapacityIs(bits) => controller.set_link_capacity_estimate(Some(rate(bits))),
+        Call::CapacityNone => controller.set_link_capacity_estimate(None),
         Call::Report(bits) => report(controller, queued, times, sizes, flags, rate(bits)),
-        Call::Packet {
-            time: _,
-            lost: _,
-            size: _,
-        } => answered(controller),
-        Call::Read => answered(controller),
-        Call::StartBytes => answered(LossController::with_profile(true)),
-        Call::StartPackets => answered(LossController::with_profile(false)),
-    }
-}
-
-fn control(
-    controller: LossController,
-    queued: usize,
-    times: &[u64; PLACES],
-    sizes: &[PacketSize; PLACES],
-    flags: &[u8; PLACES],
-    line: Line,
-) -> ControllerAnswer
-    ensures { result ≡ Split.line_controlled controller (Answers.queue_of queued times.now sizes.now flags.now) line }
-{
-    match line {
-        Line::Taken(call) => control_call(controller, queued, times, sizes, flags, call),
-        Line::Refused(_) => answered(controller),
-        Line::ReportRefused(_) => answered(controller),
-    }
-}
-
-// A line that calls the controller, and leaves `left` packets in the queue.
-fn called(
-    session: Session,
-    left: usize,
-    times: &[u64; PLACES],
-    sizes: &[PacketSize; PLACES],
-    flags: &[u8; PLACES],
-    line: Line,
-) -> LineAnswer
-    ensures { result ≡ Pieces.called_by (Split.line_controlled session.controller
-        (Answers.queue_of session.queued times.now sizes.now flags.now) line) left }
-{
-    let before = session.controller;
-    let queued = session.queued;
-    let answer = control(before, queued, times, sizes, flags, line);
-    let controller = answer.controller;
-    let reading = read(controller);
-    LineAnswer {
-        session: Session {
-            controller,
-            reading,
-            queued: left,
-        },
-        answer: Answer {
-            refusal: answer.refusal,
-            reading,
-        },
+        Call::Packet { .. } | Call::Read => Ok(controller),
+        Call::StartBytes => Ok(LossController::with_profile(true)),
+        Call::StartPackets => Ok(LossController::with_profile(false)),
     }
 }
 
 // ---- one line
 
-fn turn(
+// A line that leaves the controller alone.
+fn answered(session: Session, outcome: Result<(), Refusal>, queued: usize) -> LineAnswer
+    ensures { result ≡ record { session = record session { queued = queued }; outcome = outcome } }
+{
+    LineAnswer {
+        session: Session { queued, ..session },
+        outcome,
+    }
+}
+
+fn answer_call(
     session: Session,
     times: &mut [u64; PLACES],
     sizes: &mut [PacketSize; PLACES],
     flags: &mut [u8; PLACES],
-    line: Line,
+    call: Call,
 ) -> LineAnswer
     requires { session.reading ≡ Answers.reading_of session.controller }
     ensures { Answers.After result times.new sizes.new flags.new
-        (Answers.after_of (Answers.machine_of session times.old sizes.old flags.old) line) }
+        (Answers.call_after (Answers.machine_of session times.old sizes.old flags.old) call) }
 {
-    let queued = session.queued;
-    let quiet = quiet_line(queued, times, sizes, flags, line);
-    let left = quiet.queued;
-    if quiet.calls {
-        return called(session, left, times, sizes, flags, line);
-    }
-    let controller = session.controller;
-    let reading = session.reading;
-    LineAnswer {
-        session: Session {
-            controller,
-            reading,
-            queued: left,
-        },
-        answer: Answer {
-            refusal: quiet.refusal,
-            reading,
+    let quiet = quiet_call(session.queued, times, sizes, flags, call);
+    match quiet.outcome {
+        Some(outcome) => answered(session, outcome, quiet.queued),
+        None => match control_call(
+            session.controller,
+            session.queued,
+            times,
+            sizes,
+            flags,
+            call,
+        ) {
+            Ok(controller) => LineAnswer {
+                session: Session {
+                    controller,
+                    reading: read(controller),
+                    queued: quiet.queued,
+                },
+                outcome: Ok(()),
+            },
+            Err(refusal) => answered(session, Err(refusal), quiet.queued),
         },
     }
 }
 
 // The answer to a line, which comes without its newline, and what it leaves.
+#[tactic(auto, unfolding(crate::specs::Answer::after_of))]
 fn answer_line(
     session: Session,
     times: &mut [u64; PLACES],
@@ -372,8 +287,11 @@ fn answer_line(
     ensures { Answers.After result times.new sizes.new flags.new
         (Answers.after_of (Answers.machine_of session times.old sizes.old flags.old) (line_of line.now)) }
 {
-    let said = call_line::read_line(line);
-    turn(session, times, sizes, flags, said)
+    match call_line::read_line(line) {
+        Ok(call) => answer_call(session, times, sizes, flags, call),
+        Err(LineRefusal::Report(refusal)) => answered(session, Err(refusal), 0),
+        Err(LineRefusal::Other(refusal)) => answered(session, Err(refusal), session.queued),
+    }
 }
 
 // ---- the answer line
@@ -391,14 +309,12 @@ fn text(reading: Reading) -> [u8; TEXT]
     ensures { result ≡ Answers.text_of reading }
 {
     let mut text = [b'\n'; TEXT];
-    put_column(&mut text, 0, STATE_END, reading.state as u64);
-    put_column(
-        &mut text,
-        STATE_END,
-        PUBLISHED_END,
-        reading.published as u64,
-    );
-    put_column(&mut text, PUBLISHED_END, RATE_END, reading.rate);
+    let state = u8::from(reading.state) as u64;
+    let published = reading.rate.is_some() as u64;
+    let rate = reading.rate.unwrap_or(0);
+    put_column(&mut text, 0, STATE_END, state);
+    put_column(&mut text, STATE_END, PUBLISHED_END, published);
+    put_column(&mut text, PUBLISHED_END, RATE_END, rate);
     put_column(
         &mut text,
         RATE_END,
@@ -408,12 +324,22 @@ fn text(reading: Reading) -> [u8; TEXT]
     text
 }
 
-// A refusal and the columns after it, in out from w on.
-fn put_row(refusal: u8, text: &[u8], out: &mut [u8], w: usize)
-    requires { (length text.now ≡ Answers.text_width) × (w + Feeding.row_width ≤ length out.old) }
-    ensures { out.new ≡ laid w (Answers.in_column 0 refusal ++ text.now) out.old }
+// The number of a refusal; 0 where there is none.
+fn number(outcome: Result<(), Refusal>) -> u8
+    ensures { result ≡ number outcome }
 {
-    put_column(out, w, w + REFUSAL_WIDTH, refusal as u64);
+    match outcome {
+        Ok(()) => 0,
+        Err(refusal) => u8::from(refusal),
+    }
+}
+
+// A refusal's number and the columns after it, in out from w on.
+fn put_row(outcome: Result<(), Refusal>, text: &[u8], out: &mut [u8], w: usize)
+    requires { (length text.now ≡ Answers.text_width) × (w + Feeding.row_width ≤ length out.old) }
+    ensures { out.new ≡ laid w (Answers.in_column 0 (number outcome) ++ text.now) out.old }
+{
+    put_column(out, w, w + REFUSAL_WIDTH, number(outcome) as u64);
     let mut k = 0;
     while k < TEXT {
         out[w + REFUSAL_WIDTH + k] = text[k];
@@ -422,13 +348,12 @@ fn put_row(refusal: u8, text: &[u8], out: &mut [u8], w: usize)
 }
 
 // An answer, in out from w on.
-fn put_answer(answer: Answer, out: &mut [u8], w: usize)
+fn put_answer(answer: LineAnswer, out: &mut [u8], w: usize)
     requires { w + Feeding.row_width ≤ length out.old }
-    ensures { out.new ≡ laid w (Answers.row_of answer.refusal answer.reading) out.old }
+    ensures { out.new ≡ laid w (Answers.row_of answer.outcome answer.session.reading) out.old }
 {
-    let reading = answer.reading;
-    let row = text(reading);
-    put_row(answer.refusal, &row, out, w);
+    let row = text(answer.session.reading);
+    put_row(answer.outcome, &row, out, w);
 }
 
 // ---- a line that a chunk ends
@@ -508,27 +433,12 @@ fn standing(chunk: &[u8], from: usize) -> usize
     0
 }
 
-fn same(a: Reading, b: Reading) -> bool
-    ensures { result ≡ Pieces.same_reading a b }
-{
-    if a.rate != b.rate {
-        return false;
-    }
-    if a.inherent_loss != b.inherent_loss {
-        return false;
-    }
-    if a.state != b.state {
-        return false;
-    }
-    a.published == b.published
-}
-
 // The text of a reading in place of the one before it: it is seldom another.
 fn renew(row: &mut [u8; TEXT], before: Reading, reading: Reading)
     requires { row.old ≡ Answers.text_of before }
     ensures { row.new ≡ Answers.text_of reading }
 {
-    if !same(before, reading) {
+    if before != reading {
         *row = text(reading);
     }
 }
@@ -583,21 +493,25 @@ fn whole_lines(
     let mut width = standing(chunk, i);
     while width > 0 {
         let end = i + width;
-        let Line::Taken(call) = call_line::read_line(&chunk[i..end]) else {
+        let Ok(call) = call_line::read_line(&chunk[i..end]) else {
             break;
         };
         let quiet = quiet_call(queued, times, sizes, flags, call);
-        let mut refusal = quiet.refusal;
-        if quiet.calls {
-            let answer = control_call(controller, queued, times, sizes, flags, call);
-            controller = answer.controller;
-            refusal = answer.refusal;
-            let now = read(controller);
-            renew(&mut row, reading, now);
-            reading = now;
-        }
+        let outcome = match quiet.outcome {
+            Some(outcome) => outcome,
+            None => match control_call(controller, queued, times, sizes, flags, call) {
+                Ok(after) => {
+                    controller = after;
+                    let now = read(after);
+                    renew(&mut row, reading, now);
+                    reading = now;
+                    Ok(())
+                }
+                Err(refusal) => Err(refusal),
+            },
+        };
         queued = quiet.queued;
-        put_row(refusal, &row, out, w);
+        put_row(outcome, &row, out, w);
         w += ROW;
         i = end + 1;
         width = standing(chunk, i);
@@ -703,10 +617,8 @@ fn feed_all(
         i = next.read;
         if next.ended {
             let done = answer_line(session, times, sizes, flags, &line[..len]);
-            let answer = done.answer;
-            put_answer(answer, out, w);
-            let answered = done.session;
-            let progress = whole_lines(answered, times, sizes, flags, chunk, i, out, w + ROW);
+            put_answer(done, out, w);
+            let progress = whole_lines(done.session, times, sizes, flags, chunk, i, out, w + ROW);
             line = [0u8; KEPT];
             len = 0;
             session = progress.session;
@@ -770,9 +682,7 @@ pub fn finish(
     let controller = state.controller;
     let session = session_of(controller, state.queued);
     let done = answer_line(session, times, sizes, flags, &line[..len]);
-    let answer = done.answer;
-    put_answer(answer, out, 0);
-    let next = done.session;
+    put_answer(done, out, 0);
     let blank = [0u8; KEPT];
-    all_taken(blank, 0, next, ROW)
+    all_taken(blank, 0, done.session, ROW)
 }

@@ -7,20 +7,20 @@ use lib.Ieee.Exact.{HasValue}
 use lib.Ieee.Fits.{of_int-fits}
 use Rattle.float.proofs.Both.{both}
 use Rattle.call_line.specs.Column.{is_digit, more, digits_of}
-use Rattle.call_line.specs.declared.Number.TheVariants.{Value, Wrong}
+use Rattle.std.proofs.Common.{Some, None}
 use Rattle.call_words.specs.Words.{ascii, same, at_most, bits_of, rate_of}
 use Rattle.call_words.specs.Laws.{RateExact}
 
 same_true : (s t : List ℕ) → same s t ≡ true → s ≡ t
 unfolding same
 same_true [] [] e = refl
-same_true [] (b ∷ t) e = let z : ◌≡◌ {A = ℕ} 0 1 = cc in absurd (omega arith)
-same_true (a ∷ s) [] e = let z : ◌≡◌ {A = ℕ} 0 1 = cc in absurd (omega arith)
+same_true [] (b ∷ t) e = cc
+same_true (a ∷ s) [] e = cc
 same_true (a ∷ s) (b ∷ t) e =
     let h = both (eqb a b) (same s t) e in
     cc (eqb-true a b h.0, same_true s t h.1)
 
-inf_no_number : digits_of (ascii "inf") ≡ Wrong
+inf_no_number : digits_of (ascii "inf") ≡ None
 unfolding digits_of is_digit more
 inf_no_number = refl
 
@@ -34,16 +34,14 @@ rate_exact word n bits d e = pick (same word (ascii "inf")) refl (rw d at e)
   where
     pick :
         (t : Bool) → same word (ascii "inf") ≡ t
-        → cond t (Value (to_bits binary64 (inf false))) (bits_of (cond (leb n (10 ^ 15)) (Value n) Wrong)) ≡ Value bits
+        → cond t (Some (to_bits binary64 (inf false))) (bits_of (cond (leb n (10 ^ 15)) (Some n) None)) ≡ Some bits
         → HasValue (of_bits binary64 bits) false n 1
-    pick true q f =
-        let z : ◌≡◌ {A = ℕ} 0 1 = cc (same_true word (ascii "inf") q, inf_no_number) in
-        absurd (omega arith)
+    pick true q f = cc (same_true word (ascii "inf") q, inf_no_number)
     pick false q f = taken (leb n (10 ^ 15)) refl f
       where
         taken :
-            (t : Bool) → leb n (10 ^ 15) ≡ t → bits_of (cond t (Value n) Wrong) ≡ Value bits → HasValue (of_bits binary64 bits) false n 1
+            (t : Bool) → leb n (10 ^ 15) ≡ t → bits_of (cond t (Some n) None) ≡ Some bits → HasValue (of_bits binary64 bits) false n 1
         taken true l g =
             let b : bits ≡ to_bits binary64 (of_int binary64 (pos n)) = cc in
             rw b (small_exact n (leb-true _ _ l))
-        taken false l g = let z : ◌≡◌ {A = ℕ} 0 1 = cc in absurd (omega arith)
+        taken false l g = cc

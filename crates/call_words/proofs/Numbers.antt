@@ -5,8 +5,7 @@ use borrow.Author.Tests.{lt-leb}
 use lib.Seq.{drop-length}
 use Rattle.float.proofs.Both.{both}
 use Rattle.packets.specs.Summary.{largest_packet, latest_time}
-use Rattle.call_line.specs.declared.Number.{Number}
-use Rattle.call_line.specs.declared.Number.TheVariants.{Value, Wrong}
+use Rattle.std.proofs.Common.{Option, Some, None}
 use Rattle.call_line.specs.Column.{ascii_zero, is_digit, more, digits_of}
 use Rattle.call_line.proofs.Reading.{digit_bounds}
 use Rattle.call_words.specs.Words.{up_to, on_from, is_point, at_most, size_of, times, unit_of, places_of, fraction_of, plus, nanos_of, time_of}
@@ -15,12 +14,12 @@ use Rattle.call_words.proofs.Scanning.{up_to_take, on_from_drop, place_within}
 
 -- ---- digits
 
-pub more_stop : (s : List ℕ) (i v : ℕ) → i < length s → is_digit (get_or s i 0) ≡ false → more v (drop i s) ≡ Wrong
+pub more_stop : (s : List ℕ) (i v : ℕ) → i < length s → is_digit (get_or s i 0) ≡ false → more v (drop i s) ≡ None
 unfolding more
 more_stop s i v h e = rw (drop-cons s i 0) (simp e)
 
 -- a number of k digits, and the digits after it
-more_below : (s : List ℕ) (k v n : ℕ) → v < 10 ^ k → more v s ≡ Value n → n < 10 ^ (k + length s)
+more_below : (s : List ℕ) (k v n : ℕ) → v < 10 ^ k → more v s ≡ Some n → n < 10 ^ (k + length s)
 unfolding more
 more_below [] k v n h e = let q : v ≡ n = cc in rw add-zero (omega arith)
 more_below (b ∷ s) k v n h e =
@@ -29,25 +28,25 @@ more_below (b ∷ s) k v n h e =
   where
     pick :
         (t : Bool) → (is_digit b && ltb (v * 10 + (b - ascii_zero)) (2 ^ 64)) ≡ t
-        → (is_digit b ≡ true → more (v * 10 + (b - ascii_zero)) s ≡ Value n → n < 10 ^ (suc k + length s))
-        → cond t (more (v * 10 + (b - ascii_zero)) s) Wrong ≡ Value n → n < 10 ^ (k + suc (length s))
+        → (is_digit b ≡ true → more (v * 10 + (b - ascii_zero)) s ≡ Some n → n < 10 ^ (suc k + length s))
+        → cond t (more (v * 10 + (b - ascii_zero)) s) None ≡ Some n → n < 10 ^ (k + suc (length s))
     pick true q r f =
         let w : k + suc (length s) ≡ suc k + length s = omega arith in
         rw w (r (both _ _ q).0 f)
-    pick false q r f = let z : ◌≡◌ {A = ℕ} 0 1 = cc in absurd (omega arith)
+    pick false q r f = cc
 
 -- ---- sizes
 
-pub at_most_lem : (most n : ℕ) (a : Number) → at_most most a ≡ Value n → n ≤ most
+pub at_most_lem : (most n : ℕ) (a : Option ℕ) → at_most most a ≡ Some n → n ≤ most
 unfolding at_most
-at_most_lem most n (Value m) e = pick (leb m most) refl e
+at_most_lem most n (Some m) e = pick (leb m most) refl e
   where
-    pick : (t : Bool) → leb m most ≡ t → cond t (Value m) Wrong ≡ Value n → n ≤ most
+    pick : (t : Bool) → leb m most ≡ t → cond t (Some m) None ≡ Some n → n ≤ most
     pick true q f = let w : m ≡ n = cc in omega (arith, leb-true m most q)
-    pick false q f = let z : ◌≡◌ {A = ℕ} 0 1 = cc in absurd (omega arith)
-at_most_lem most n Wrong e = let z : ◌≡◌ {A = ℕ} 0 1 = cc in absurd (omega arith)
+    pick false q f = cc
+at_most_lem most n None e = cc
 
-pub size_fits : (s : List ℕ) (n : ℕ) → size_of s ≡ Value n → n ≤ largest_packet
+pub size_fits : (s : List ℕ) (n : ℕ) → size_of s ≡ Some n → n ≤ largest_packet
 unfolding size_of
 size_fits s n e = at_most_lem largest_packet n (digits_of s) e
 
@@ -64,11 +63,11 @@ power_fits j h = pow-le-pow_right (lit< tt) h
 -- ---- the digits after a point
 
 module _ (s : List ℕ) where
-  pub places_none : length s ≡ 0 → places_of s ≡ Wrong
+  pub places_none : length s ≡ 0 → places_of s ≡ None
   unfolding places_of
   places_none e = simp e
 
-  pub places_many : 9 < length s → places_of s ≡ Wrong
+  pub places_many : 9 < length s → places_of s ≡ None
   unfolding places_of
   places_many l = simp (le-leb 1 (length s) (omega arith), lt-leb (length s) 9 l)
 
@@ -78,7 +77,7 @@ module _ (s : List ℕ) where
     places_some = simp (le-leb 1 (length s) (omega (arith, n)), le-leb (length s) 9 l)
 
     -- each is below 10^9
-    pub places_fit : (v : ℕ) → more 0 s ≡ Value v → v * unit_of (length s) ≤ 10 ^ 18
+    pub places_fit : (v : ℕ) → more 0 s ≡ Some v → v * unit_of (length s) ≤ 10 ^ 18
     places_fit v e =
         let a : v < 10 ^ (0 + length s) = more_below s 0 0 v (lit< tt) e in
         let b : 10 ^ (0 + length s) ≤ 10 ^ 9 = power_fits (0 + length s) (omega arith) in
@@ -86,23 +85,23 @@ module _ (s : List ℕ) where
         let d : v ≤ 10 ^ 9 = omega arith in
         mul-le-mul d c
 
-timed : (u n : ℕ) (a : Number) → times u a ≡ Value n → ((v : ℕ) → a ≡ Value v → v * u ≤ 10 ^ 18) → n ≤ 10 ^ 18
+timed : (u n : ℕ) (a : Option ℕ) → times u a ≡ Some n → ((v : ℕ) → a ≡ Some v → v * u ≤ 10 ^ 18) → n ≤ 10 ^ 18
 unfolding times
-timed u n (Value v) e h = let q : v * u ≡ n = cc in omega (arith, h v refl)
-timed u n Wrong e h = let z : ◌≡◌ {A = ℕ} 0 1 = cc in absurd (omega arith)
+timed u n (Some v) e h = let q : v * u ≡ n = cc in omega (arith, h v refl)
+timed u n None e h = cc
 
-pub fraction_fits : (s : List ℕ) (n : ℕ) → places_of s ≡ Value n → n ≤ 10 ^ 18
+pub fraction_fits : (s : List ℕ) (n : ℕ) → places_of s ≡ Some n → n ≤ 10 ^ 18
 unfolding places_of
 fraction_fits s n e = pick (leb 1 (length s) && leb (length s) 9) refl e
   where
     pick :
-        (t : Bool) → (leb 1 (length s) && leb (length s) 9) ≡ t → cond t (times (unit_of (length s)) (more 0 s)) Wrong ≡ Value n
+        (t : Bool) → (leb 1 (length s) && leb (length s) 9) ≡ t → cond t (times (unit_of (length s)) (more 0 s)) None ≡ Some n
         → n ≤ 10 ^ 18
     pick true q f =
         let b = both (leb 1 (length s)) (leb (length s) 9) q in
         let l : 1 ≤ length s = leb-true _ _ b.0 in
         timed (unit_of (length s)) n (more 0 s) f (places_fit s (λ z. omega arith) (leb-true _ _ b.1))
-    pick false q f = let z : ◌≡◌ {A = ℕ} 0 1 = cc in absurd (omega arith)
+    pick false q f = cc
 
 -- ---- the parts of a time
 
@@ -116,50 +115,38 @@ module _ (s : List ℕ) (p : ℕ) (e : p ≡ length (up_to is_point s)) where
   before : digits_of (take p s) ≡ digits_of (up_to is_point s)
   before = ap digits_of (ap (λ (j : ℕ). take j s) e ∙ up_to_take is_point s)
 
-  pub seconds_wrong : digits_of (take p s) ≡ Wrong → bounded_nanos s ≡ Wrong
-  unfolding bounded_nanos plus times at_most
-  seconds_wrong w = rw (← before, w)
+  pub seconds_parts : bounded_nanos s ≡ plus (times (10 ^ 9) (at_most 4000000000 (digits_of (take p s)))) (fraction_of (drop p s))
+  unfolding bounded_nanos
+  seconds_parts = rw (before, e, on_from_drop is_point s)
 
-  pub seconds_many : (n : ℕ) → digits_of (take p s) ≡ Value n → 4000000000 < n → bounded_nanos s ≡ Wrong
-  unfolding bounded_nanos plus times at_most
-  seconds_many n v l = rw (← before, v) (simp (lt-leb n 4000000000 l))
+  pub no_fraction : p ≡ length s → fraction_of (drop p s) ≡ Some 0
+  unfolding fraction_of
+  no_fraction q = rw (q, drop-length s)
 
-  seconds_some :
-      (n : ℕ) → digits_of (take p s) ≡ Value n → n ≤ 4000000000 → bounded_nanos s ≡ plus (Value (n * 10 ^ 9)) (fraction_of (drop p s))
-  unfolding bounded_nanos times at_most
-  seconds_some n v l = rw (← before, v, e, on_from_drop is_point s) (simp (le-leb n 4000000000 l))
-
-  module _ (n : ℕ) (v : digits_of (take p s) ≡ Value n) (l : n ≤ 4000000000) where
-    pub seconds_alone : p ≡ length s → bounded_nanos s ≡ Value (n * 10 ^ 9)
-    unfolding plus fraction_of
-    seconds_alone q = seconds_some n v l ∙ rw (q, drop-length s) (simp add-zero)
-
-    pub seconds_and :
-        (p ≡ length s → ⊥)
-        → bounded_nanos s ≡ plus (Value (n * 10 ^ 9)) (places_of (take (length s - (p + 1)) (drop (p + 1) s)))
-    unfolding fraction_of
-    seconds_and q =
-        let h : p < length s = omega (arith, point_within, q) in
-        let t : take (length s - (p + 1)) (drop (p + 1) s) ≡ drop (p + 1) s =
-        take_all (length s - (p + 1)) (drop (p + 1) s) (omega (arith, length-drop (p + 1) s)) in
-        seconds_some n v l ∙ rw (t, add-one, drop-cons s p 0)
+  pub some_fraction : (p ≡ length s → ⊥) → fraction_of (drop p s) ≡ places_of (take (length s - (p + 1)) (drop (p + 1) s))
+  unfolding fraction_of
+  some_fraction q =
+      let h : p < length s = omega (arith, point_within, q) in
+      let t : take (length s - (p + 1)) (drop (p + 1) s) ≡ drop (p + 1) s =
+      take_all (length s - (p + 1)) (drop (p + 1) s) (omega (arith, length-drop (p + 1) s)) in
+      rw (t, add-one, drop-cons s p 0)
 
 -- the bound on the seconds is within that on the time
 pub bounded : (word : List ℕ) → at_most latest_time (bounded_nanos word) ≡ time_of word
 unfolding bounded_nanos time_of nanos_of plus times at_most
 bounded word = pick (digits_of (up_to is_point word)) (fraction_of (on_from is_point word))
   where
-    pick : (a b : Number) → at_most latest_time (plus (times (10 ^ 9) (at_most 4000000000 a)) b) ≡ at_most latest_time (plus (times (10 ^ 9) a) b)
-    pick Wrong b = refl
-    pick (Value n) Wrong = choose (leb n 4000000000)
+    pick : (a b : Option ℕ) → at_most latest_time (plus (times (10 ^ 9) (at_most 4000000000 a)) b) ≡ at_most latest_time (plus (times (10 ^ 9) a) b)
+    pick None b = refl
+    pick (Some n) None = choose (leb n 4000000000)
       where
-        choose : (t : Bool) → at_most latest_time (plus (times (10 ^ 9) (cond t (Value n) Wrong)) Wrong) ≡ Wrong
+        choose : (t : Bool) → at_most latest_time (plus (times (10 ^ 9) (cond t (Some n) None)) None) ≡ None
         choose true = refl
         choose false = refl
-    pick (Value n) (Value f) = choose (leb n 4000000000) refl
+    pick (Some n) (Some f) = choose (leb n 4000000000) refl
       where
         choose :
             (t : Bool) → leb n 4000000000 ≡ t
-            → at_most latest_time (plus (times (10 ^ 9) (cond t (Value n) Wrong)) (Value f)) ≡ at_most latest_time (Value (n * 10 ^ 9 + f))
+            → at_most latest_time (plus (times (10 ^ 9) (cond t (Some n) None)) (Some f)) ≡ at_most latest_time (Some (n * 10 ^ 9 + f))
         choose true q = refl
         choose false q = let l : 4000000000 < n = leb-false _ _ q in rw (lt-leb (n * 10 ^ 9 + f) latest_time (omega arith))

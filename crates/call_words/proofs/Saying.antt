@@ -2,7 +2,8 @@
 use Rattle.std.proofs.Common.{◌≡◌, ℕ, suc, ◌+◌, ◌<◌, ◌≤◌, true, false, List, [], ◌∷◌, length, get_or, drop, refl, ap, add-one, arith, drop_of_length-le, drop-cons, eq-eqb, ne_eqb}
 use mathlib.Core.Bool.{and-false}
 use Rattle.call_line.specs.declared.Call.TheVariants.{Read as Call-as-Read}
-use Rattle.call_words.specs.declared.Words.TheVariants.{Call as Called, Nothing, Wrong}
+use Rattle.std.proofs.Common.{None, Some, Ok, Err}
+use Rattle.refusal.specs.Outcome.{and_then}
 use Rattle.call_words.specs.declared.Why.TheVariants.{WordCount}
 use Rattle.call_words.specs.declared.Valued.{Valued}
 use Rattle.call_words.specs.declared.Name.{Name}
@@ -58,7 +59,7 @@ one_value name (a ∷ []) e = absurd (omega arith)
 one_value name (a ∷ b ∷ []) e = refl
 one_value name (a ∷ b ∷ c ∷ ws) e = absurd (omega arith)
 
-pub not_one : (name : Valued) (ws : List (List ℕ)) → (length ws ≡ 2 → ⊥) → call_of (WithValue name) (drop 1 ws) ≡ Wrong WordCount
+pub not_one : (name : Valued) (ws : List (List ℕ)) → (length ws ≡ 2 → ⊥) → call_of (WithValue name) (drop 1 ws) ≡ Err WordCount
 unfolding call_of
 not_one name [] n = refl
 not_one name (a ∷ []) n = refl
@@ -76,7 +77,7 @@ three_values (a ∷ b ∷ c ∷ []) e = absurd (omega arith)
 three_values (a ∷ b ∷ c ∷ d ∷ []) e = refl
 three_values (a ∷ b ∷ c ∷ d ∷ f ∷ ws) e = absurd (omega arith)
 
-pub not_three : (ws : List (List ℕ)) → (length ws ≡ 4 → ⊥) → call_of Packet (drop 1 ws) ≡ Wrong WordCount
+pub not_three : (ws : List (List ℕ)) → (length ws ≡ 4 → ⊥) → call_of Packet (drop 1 ws) ≡ Err WordCount
 unfolding call_of
 not_three [] n = refl
 not_three (a ∷ []) n = refl
@@ -85,13 +86,13 @@ not_three (a ∷ b ∷ c ∷ []) n = refl
 not_three (a ∷ b ∷ c ∷ d ∷ []) n = absurd (n refl)
 not_three (a ∷ b ∷ c ∷ d ∷ f ∷ ws) n = refl
 
-pub no_value : (ws : List (List ℕ)) → length ws ≤ 1 → call_of Read (drop 1 ws) ≡ Called Call-as-Read
+pub no_value : (ws : List (List ℕ)) → length ws ≤ 1 → call_of Read (drop 1 ws) ≡ Ok Call-as-Read
 unfolding call_of
 no_value [] l = refl
 no_value (a ∷ []) l = refl
 no_value (a ∷ b ∷ ws) l = absurd (omega arith)
 
-pub not_alone : (ws : List (List ℕ)) → 1 < length ws → call_of Read (drop 1 ws) ≡ Wrong WordCount
+pub not_alone : (ws : List (List ℕ)) → 1 < length ws → call_of Read (drop 1 ws) ≡ Err WordCount
 unfolding call_of
 not_alone [] l = absurd (omega arith)
 not_alone (a ∷ []) l = absurd (omega arith)
@@ -99,19 +100,19 @@ not_alone (a ∷ b ∷ ws) l = refl
 
 -- ---- the first word
 
-pub nothing : (ws : List (List ℕ)) → length ws ≡ 0 → said ws ≡ Nothing
+pub nothing : (ws : List (List ℕ)) → length ws ≡ 0 → said ws ≡ Ok None
 unfolding said
 nothing [] e = refl
 nothing (a ∷ ws) e = absurd (omega arith)
 
-pub comment : (ws : List (List ℕ)) → (length ws ≡ 0 → ⊥) → is_comment (get_or ws 0 no_word) ≡ true → said ws ≡ Nothing
+pub comment : (ws : List (List ℕ)) → (length ws ≡ 0 → ⊥) → is_comment (get_or ws 0 no_word) ≡ true → said ws ≡ Ok None
 unfolding said
 comment [] n e = refl
 comment (a ∷ ws) n e = simp e
 
 pub named :
     (ws : List (List ℕ)) → (length ws ≡ 0 → ⊥) → is_comment (get_or ws 0 no_word) ≡ false
-    → said ws ≡ call_of (name_of (get_or ws 0 no_word)) (drop 1 ws)
+    → said ws ≡ and_then (call_of (name_of (get_or ws 0 no_word)) (drop 1 ws)) (λ call. Ok (Some call))
 unfolding said
 named [] n e = absurd (n refl)
 named (a ∷ ws) n e = simp e

@@ -7,7 +7,7 @@ ghost use Rattle.packets.specs.Summary.{largest_packet};
 ghost use Rattle.call_words.specs.Words as W;
 ghost use Rattle.call_words.specs.Steps.{bounded_nanos};
 
-use call_line::{Call, Number};
+use call_line::Call;
 use packets::PacketSize;
 
 // The largest whole rate, 10^15 bit/s: each up to 2^53 is a float.
@@ -32,14 +32,6 @@ pub enum Why {
     Size,
     Outcome,
     Measure,
-}
-
-// What a line says: nothing where it has no words, or a comment.
-#[derive(Clone, Copy)]
-pub enum Words {
-    Call(Call),
-    Nothing,
-    Wrong(Why),
 }
 
 // The calls with one value
@@ -193,39 +185,31 @@ fn name_of(word: &[u8]) -> Name
 // ---- values
 
 // The bits of a rate's float.
-fn read_rate(word: &[u8]) -> Number
+#[tactic(auto, unfolding(crate::specs::Words::rate_of, crate::specs::Words::bits_of))]
+fn read_rate(word: &[u8]) -> Option<u64>
     ensures { result ≡ W.rate_of word.now }
 {
     if is_word(word, b"inf") {
-        return Number::Value(float::to_bits(float::infinity()));
+        return Some(float::to_bits(f64::INFINITY));
     }
-    match call_line::read_number(word) {
-        Number::Value(rate) => {
-            if rate > MOST_RATE {
-                return Number::Wrong;
-            }
-            let bps = std::num::nearest_u64_to_f64(rate);
-            Number::Value(float::to_bits(bps))
-        }
-        Number::Wrong => Number::Wrong,
-    }
+    let rate = at_most(MOST_RATE, call_line::read_number(word))?;
+    let bps = std::num::nearest_u64_to_f64(rate);
+    Some(float::to_bits(bps))
 }
 
-fn at_most(most: u64, number: Number) -> Number
+#[tactic(auto, unfolding(crate::specs::Words::at_most))]
+fn at_most(most: u64, number: Option<u64>) -> Option<u64>
     ensures { result ≡ W.at_most most number }
 {
-    match number {
-        Number::Value(n) => {
-            if n > most {
-                return Number::Wrong;
-            }
-            Number::Value(n)
-        }
-        Number::Wrong => Number::Wrong,
+    let n = number?;
+    if n > most {
+        return None;
     }
+    Some(n)
 }
 
-fn read_size(word: &[u8]) -> Number
+#[tactic(auto, unfolding(crate::specs::Words::size_of))]
+fn read_size(word: &[u8]) -> Option<u64>
     ensures { result ≡ W.size_of word.now }
 {
     at_most(packets::LARGEST_PACKET, call_line::read_number(word))
@@ -246,7 +230,7 @@ fn point(word: &[u8]) -> usize
 }
 
 // The number in digits that may begin with zeros.
-fn read_digits(digits: &[u8]) -> Number
+fn read_digits(digits: &[u8]) -> Option<u64>
     requires { length digits.now ≤ 9 }
     ensures { result ≡ more 0 digits.now }
 {
@@ -256,11 +240,11 @@ fn read_digits(digits: &[u8]) -> Number
         let byte = digits[i];
         i += 1;
         if !call_line::is_digit(byte) {
-            return Number::Wrong;
+            return None;
         }
         value = value * 10 + (byte - b'0') as u64;
     }
-    Number::Value(value)
+    Some(value)
 }
 
 // What one unit in the last of so many places after the point is in ns.
@@ -278,48 +262,34 @@ fn unit(places: usize) -> u64
 }
 
 // The ns of the digits after a point.
-fn read_fraction(digits: &[u8]) -> Number
+#[tactic(auto, unfolding(crate::specs::Words::places_of, crate::specs::Words::times))]
+fn read_fraction(digits: &[u8]) -> Option<u64>
     ensures { result ≡ W.places_of digits.now }
 {
-    if digits.len() == 0 {
-        return Number::Wrong;
+    if digits.len() == 0 || digits.len() > MOST_PLACES {
+        return None;
     }
-    if digits.len() > MOST_PLACES {
-        return Number::Wrong;
-    }
-    match read_digits(digits) {
-        Number::Value(value) => {
-            let nanos = unit(digits.len());
-            Number::Value(value * nanos)
-        }
-        Number::Wrong => Number::Wrong,
-    }
+    let value = read_digits(digits)?;
+    Some(value * unit(digits.len()))
 }
 
 // The ns of a time in seconds.
-fn read_seconds(word: &[u8]) -> Number
+#[tactic(auto, using(crate::proofs::Numbers::before_length, crate::proofs::Numbers::point_within, crate::proofs::Numbers::seconds_parts, crate::proofs::Numbers::no_fraction, crate::proofs::Numbers::some_fraction, crate::proofs::Numbers::at_most_lem, crate::proofs::Numbers::fraction_fits), unfolding(crate::specs::Words::plus, crate::specs::Words::times))]
+fn read_seconds(word: &[u8]) -> Option<u64>
     ensures { result ≡ bounded_nanos word.now }
 {
     let point = point(word);
-    match call_line::read_number(&word[..point]) {
-        Number::Value(seconds) => {
-            if seconds > MOST_SECONDS {
-                return Number::Wrong;
-            }
-            if point == word.len() {
-                return Number::Value(seconds * NANOS);
-            }
-            match read_fraction(&word[point + 1..]) {
-                Number::Value(nanos) => Number::Value(seconds * NANOS + nanos),
-                Number::Wrong => Number::Wrong,
-            }
-        }
-        Number::Wrong => Number::Wrong,
+    let seconds = at_most(MOST_SECONDS, call_line::read_number(&word[..point]))?;
+    if point == word.len() {
+        return Some(seconds * NANOS);
     }
+    let nanos = read_fraction(&word[point + 1..])?;
+    Some(seconds * NANOS + nanos)
 }
 
 // The ns of a time that a call may have.
-fn read_time(word: &[u8]) -> Number
+#[tactic(auto, using(crate::proofs::Numbers::bounded))]
+fn read_time(word: &[u8]) -> Option<u64>
     ensures { result ≡ W.time_of word.now }
 {
     at_most(packets::LATEST_TIME, read_seconds(word))
@@ -327,137 +297,137 @@ fn read_time(word: &[u8]) -> Number
 
 // ---- calls
 
-fn alr(value: &[u8]) -> Words
+#[tactic(auto, unfolding(crate::specs::Words::alr_of, crate::specs::Words::given))]
+fn alr(value: &[u8]) -> Result<Call, Why>
     ensures { result ≡ W.alr_of value.now }
 {
     if is_word(value, b"off") {
-        return Words::Call(Call::AlrOff);
+        return Ok(Call::AlrOff);
     }
-    match read_time(value) {
-        Number::Value(start) => Words::Call(Call::AlrOn(start)),
-        Number::Wrong => Words::Wrong(Why::Time),
-    }
+    let start = read_time(value).ok_or(Why::Time)?;
+    Ok(Call::AlrOn(start))
 }
 
-fn capacity(value: &[u8]) -> Words
+#[tactic(auto, unfolding(crate::specs::Words::capacity_of, crate::specs::Words::given))]
+fn capacity(value: &[u8]) -> Result<Call, Why>
     ensures { result ≡ W.capacity_of value.now }
 {
     if is_word(value, b"none") {
-        return Words::Call(Call::CapacityNone);
+        return Ok(Call::CapacityNone);
     }
-    match read_rate(value) {
-        Number::Value(bits) => Words::Call(Call::CapacityIs(bits)),
-        Number::Wrong => Words::Wrong(Why::Rate),
-    }
+    let bits = read_rate(value).ok_or(Why::Rate)?;
+    Ok(Call::CapacityIs(bits))
 }
 
 // What the ratio of the controller that is started counts.
-fn start(value: &[u8]) -> Words
+#[tactic(auto, unfolding(crate::specs::Words::start_of))]
+fn start(value: &[u8]) -> Result<Call, Why>
     ensures { result ≡ W.start_of value.now }
 {
     if is_word(value, b"bytes") {
-        return Words::Call(Call::StartBytes);
+        return Ok(Call::StartBytes);
     }
     if is_word(value, b"packets") {
-        return Words::Call(Call::StartPackets);
+        return Ok(Call::StartPackets);
     }
-    Words::Wrong(Why::Measure)
+    Err(Why::Measure)
 }
 
-fn with_value(name: Valued, value: &[u8]) -> Words
+#[tactic(auto, unfolding(crate::specs::Words::with_value, crate::specs::Words::given))]
+fn with_value(name: Valued, value: &[u8]) -> Result<Call, Why>
     ensures { result ≡ W.with_value name value.now }
 {
     match name {
-        Valued::Estimate => match read_rate(value) {
-            Number::Value(bits) => Words::Call(Call::Estimate(bits)),
-            Number::Wrong => Words::Wrong(Why::Rate),
-        },
-        Valued::Acknowledged => match read_rate(value) {
-            Number::Value(bits) => Words::Call(Call::Acknowledged(bits)),
-            Number::Wrong => Words::Wrong(Why::Rate),
-        },
+        Valued::Estimate => {
+            let bits = read_rate(value).ok_or(Why::Rate)?;
+            Ok(Call::Estimate(bits))
+        }
+        Valued::Acknowledged => {
+            let bits = read_rate(value).ok_or(Why::Rate)?;
+            Ok(Call::Acknowledged(bits))
+        }
         Valued::Alr => alr(value),
         Valued::Capacity => capacity(value),
-        Valued::Report => match read_rate(value) {
-            Number::Value(bits) => Words::Call(Call::Report(bits)),
-            Number::Wrong => Words::Wrong(Why::Rate),
-        },
+        Valued::Report => {
+            let bits = read_rate(value).ok_or(Why::Rate)?;
+            Ok(Call::Report(bits))
+        }
         Valued::Start => start(value),
     }
 }
 
-fn with_outcome(time: u64, size: u64, outcome: &[u8]) -> Words
+#[tactic(auto, unfolding(crate::specs::Words::with_outcome))]
+fn with_outcome(time: u64, size: u64, outcome: &[u8]) -> Result<Call, Why>
     requires { size ≤ largest_packet }
     ensures { result ≡ W.with_outcome time size outcome.now }
 {
     let size = size as PacketSize;
     if is_word(outcome, b"lost") {
-        return Words::Call(Call::Packet {
+        return Ok(Call::Packet {
             time,
             lost: 1,
             size,
         });
     }
     if is_word(outcome, b"arrived") {
-        return Words::Call(Call::Packet {
+        return Ok(Call::Packet {
             time,
             lost: 0,
             size,
         });
     }
-    Words::Wrong(Why::Outcome)
+    Err(Why::Outcome)
 }
 
-fn packet(time: &[u8], size: &[u8], outcome: &[u8]) -> Words
+#[tactic(auto, using(crate::proofs::Numbers::size_fits), unfolding(crate::specs::Words::packet_of))]
+fn packet(time: &[u8], size: &[u8], outcome: &[u8]) -> Result<Call, Why>
     ensures { result ≡ W.packet_of time.now size.now outcome.now }
 {
-    match read_time(time) {
-        Number::Value(time) => match read_size(size) {
-            Number::Value(size) => with_outcome(time, size, outcome),
-            Number::Wrong => Words::Wrong(Why::Size),
-        },
-        Number::Wrong => Words::Wrong(Why::Time),
-    }
+    let time = read_time(time).ok_or(Why::Time)?;
+    let size = read_size(size).ok_or(Why::Size)?;
+    with_outcome(time, size, outcome)
 }
 
 // The number of words comes before what they say.
-fn call_of(name: Name, line: &[u8]) -> Words
+fn call_of(name: Name, line: &[u8]) -> Result<Call, Why>
     ensures { result ≡ W.call_of name (drop 1 (W.words_in line.now)) }
 {
     let count = count_words(line);
     match name {
         Name::WithValue(valued) => {
             if count != 2 {
-                return Words::Wrong(Why::WordCount);
+                return Err(Why::WordCount);
             }
             with_value(valued, word(line, 1))
         }
         Name::Packet => {
             if count != 4 {
-                return Words::Wrong(Why::WordCount);
+                return Err(Why::WordCount);
             }
             packet(word(line, 1), word(line, 2), word(line, 3))
         }
         Name::Read => {
             if count > 1 {
-                return Words::Wrong(Why::WordCount);
+                return Err(Why::WordCount);
             }
-            Words::Call(Call::Read)
+            Ok(Call::Read)
         }
-        Name::Unknown => Words::Wrong(Why::UnknownCall),
+        Name::Unknown => Err(Why::UnknownCall),
     }
 }
 
-// What a line says, its newline left out.
-pub fn read_words(line: &[u8]) -> Words
+// What a line says, its newline left out: nothing where it has no words, or a comment.
+#[tactic(auto, using(crate::proofs::Saying::nothing, crate::proofs::Saying::comment, crate::proofs::Saying::named), unfolding(crate::specs::Words::words_of))]
+pub fn read_words(line: &[u8]) -> Result<Option<Call>, Why>
     ensures { result ≡ W.words_of line.now }
 {
     if count_words(line) == 0 {
-        return Words::Nothing;
+        return Ok(None);
     }
     let first = word(line, 0);
     if is_comment(first) {
-        return Words::Nothing;
+        return Ok(None);
     }
-    call_of(name_of(first), line)
+    let call = call_of(name_of(first), line)?;
+    Ok(Some(call))
 }

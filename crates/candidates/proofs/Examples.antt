@@ -1,23 +1,29 @@
 -- Worked examples of the definitions in specs/, by bit patterns, which antt computes; the answers are those of the Rust's expressions.
 -- They test the definitions; no proof cites them.
-use Rattle.std.specs.Prelude.{ℕ, ◌≡◌, refl, Bool, true, false, List, [], ◌∷◌, map, Float}
+use Rattle.std.specs.Prelude.{ℕ, ◌≡◌, refl, Bool, true, false, List, [], ◌∷◌, map, Some, None, Ok, Err, Float}
 use Rattle.std.specs.Float.{inf}
-use Rattle.std.specs.Float.Ieee.{add, div, is_nan, lt, mul, of_bits, of_int}
+use Rattle.std.specs.Float.Ieee.{add, div, eq, is_nan, le, lt, mul, of_bits, of_int, sub, to_bits}
+use Rattle.refusal.specs.declared.Refusal.TheVariants.{NoLogarithm}
 use Rattle.float.specs.Rounded.{bits}
-use Rattle.float.specs.Rust.{minimum, maximum}
+use Rattle.float.specs.Rust.{magnitude, maximum, minimum, sign_bit}
 use Rattle.bandwidth.specs.Rate.{rate, most_rate, smaller, larger, limited, plus, times}
 use Rattle.bandwidth.specs.declared.Bitrate.{Bitrate}
-use Rattle.bandwidth.specs.declared.OptionBitrate.TheVariants.{Some, None}
 use Rattle.duration.specs.Seconds.{seconds}
+use Rattle.duration.specs.Nanos.{ns}
 use Rattle.time.specs.Delta as Delta
 use Rattle.time.specs.Time as Time
 use Rattle.time.specs.declared.TimeDelta.TheVariants.{Positive}
 use Rattle.time.specs.declared.Timestamp.{Timestamp}
 use Rattle.time.specs.declared.Timestamp.TheVariants.{DistantPast, Exact}
+use Rattle.logarithm.specs.Ln.{logarithm}
+use Rattle.likelihood.specs.Bias.{adjusted, bias}
+use Rattle.likelihood.specs.Feasible.{feasible, upper_bound as upper_bound_of_loss}
+use Rattle.likelihood.specs.Newton.{derivatives, newton, safe}
+use Rattle.likelihood.specs.Objective.{objective}
 use Rattle.likelihood.specs.declared.ChannelParameters.{ChannelParameters}
 use Rattle.candidates.specs.Bound.{at_most, capacity, in_window, acceleration, upper_bound}
 use Rattle.candidates.specs.Candidate.{above, bandwidths, cut, placed, scaled}
-use Rattle.candidates.specs.Choice.{answered, choice, judged, start, used}
+use Rattle.candidates.specs.Choice.{better, choice, judged, start, used}
 
 -- ---- rates, in Mbit/s
 
@@ -75,13 +81,13 @@ bounds_without_acknowledged = (refl, refl, refl)
 bounds_with_acknowledged :
     bound false two one (Exact 10000000007) (Exact 20000000000) ≡ two
     × bound false two one (Exact 10000000007) DistantPast ≡ two
-unfolding bound upper_bound in_window acceleration at_most limited plus smaller times seconds Delta.difference Delta.in_seconds Delta.larger Delta.order
+unfolding bound upper_bound in_window acceleration at_most limited plus smaller times seconds Delta.difference Delta.in_seconds Delta.order
     Time.since minimum add div is_nan lt mul of_bits of_int
 bounds_with_acknowledged = (refl, refl)
 
 -- 0.300000007 s; 0.015 s, where 60.0 × 0.015 / 60.0 is the float below 0.015; 60 s; 61 s, which count as 60
 accelerations :
-    map (λ n. acceleration (Positive (Delta.span n))) (300000007 ∷ 15000000 ∷ 60000000000 ∷ 61000000000 ∷ []) ≡
+    map (λ n. acceleration (Positive (ns n))) (300000007 ∷ 15000000 ∷ 60000000000 ∷ 61000000000 ∷ []) ≡
     bits 0x3FD333333AB75869 ∷ bits 0x3F8EB851EB851EB7 ∷ bits 0x404E000000000000 ∷ bits 0x404E000000000000 ∷ []
 unfolding acceleration seconds Delta.in_seconds minimum add div is_nan lt mul of_bits of_int
 accelerations = refl
@@ -139,21 +145,18 @@ abbrev parameters : Bitrate → ChannelParameters
 parameters r = record { inherent_loss = bits 0x3F847AE147AE147B; loss_limited_bandwidth = r }
 
 -- a candidate of 2 with this objective, after one of 1 with the objective 0.5
-second : Float → ℕ → Bitrate
-second value refusal =
-    (judged (judged (start (parameters three)) (parameters one) (record { value = bits 0x3FE0000000000000; refusal = 0 })) (parameters two)
-    (record { value = value; refusal = refusal })
-    ).best_candidate.loss_limited_bandwidth
+second : Float → Bitrate
+second value = (judged (judged (start (parameters three)) (parameters one) (bits 0x3FE0000000000000)) (parameters two) value).best_candidate.loss_limited_bandwidth
 
 -- objectives 0.5, the next float, NaN and infinity
 second_examples :
-    map (λ b. second (bits b) 0) (0x3FE0000000000000 ∷ 0x3FE0000000000001 ∷ 0x7FF8000000000000 ∷ 0x7FF0000000000000 ∷ []) ≡ one ∷ two ∷ one ∷ two ∷ []
+    map (λ b. second (bits b)) (0x3FE0000000000000 ∷ 0x3FE0000000000001 ∷ 0x7FF8000000000000 ∷ 0x7FF0000000000000 ∷ []) ≡ one ∷ two ∷ one ∷ two ∷ []
 unfolding second judged lt of_bits
 second_examples = refl
 
 -- a first candidate of 1 with this objective, where 3 is the current rate
 first : ℕ → Bitrate
-first b = (judged (start (parameters three)) (parameters one) (record { value = bits b; refusal = 0 })).best_candidate.loss_limited_bandwidth
+first b = (judged (start (parameters three)) (parameters one) (bits b)).best_candidate.loss_limited_bandwidth
 
 -- f64::MIN, the next float above it, minus infinity, NaN, -1.0
 first_examples :
@@ -162,16 +165,14 @@ first_examples :
 unfolding first judged lt of_bits
 first_examples = refl
 
--- a refusal leaves the current parameters, also after a candidate that was better
+-- a candidate at -1 bit/s, whose objective is refused, after one that was better
 refused_example :
-    answered (parameters three)
-    (judged (judged (start (parameters three)) (parameters one) (record { value = bits 0; refusal = 0 })) (parameters two)
-    (record { value = bits 0; refusal = 6 })) ≡
-    record { best = parameters three; refusal = 6 }
-unfolding answered judged lt of_bits
+    choice true (parameters three) (placed (parameters one) (parameters one ∷ parameters (rate (bits 0xBFF0000000000000)) ∷ [])) [] (bits 0) ≡ Err NoLogarithm
+unfolding choice better judged placed used newton derivatives safe sign_bit feasible upper_bound_of_loss objective bias adjusted logarithm magnitude maximum minimum add div
+    eq is_nan le lt mul of_bits of_int sub to_bits
 refused_example = refl
 
 -- no candidate
-none_example : choice true (parameters three) (placed (parameters one) []) [] (bits 0) ≡ record { best = parameters three; refusal = 0 }
-unfolding answered choice placed used
+none_example : choice true (parameters three) (placed (parameters one) []) [] (bits 0) ≡ Ok (parameters three)
+unfolding choice placed used
 none_example = refl

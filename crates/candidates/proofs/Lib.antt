@@ -1,4 +1,4 @@
-pub mod Places
 pub mod Offered
 pub mod Chosen
+mod Places
 mod Examples

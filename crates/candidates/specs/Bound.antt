@@ -1,12 +1,10 @@
 -- The bound on a candidate's rate. Definitions only.
-use Rattle.std.specs.Prelude.{Bool, true, false, cond, ◌&&◌, Float}
+use Rattle.std.specs.Prelude.{Bool, true, false, if◌then◌else◌, ◌&&◌, Float, Option, Some, None}
 use Rattle.std.specs.Float.Ieee.Scale.{finite}
 use Rattle.float.specs.Rounded.{◌⊗◌, ◌⊘◌}
 use Rattle.float.specs.Rust.{minimum}
 use Rattle.bandwidth.specs.Rate.{smaller, plus, times}
 use Rattle.bandwidth.specs.declared.Bitrate.{Bitrate}
-use Rattle.bandwidth.specs.declared.OptionBitrate.{OptionBitrate}
-use Rattle.bandwidth.specs.declared.OptionBitrate.TheVariants.{Some, None}
 use Rattle.duration.specs.Seconds.{seconds}
 use Rattle.time.specs.Delta.{in_seconds, larger, zero}
 use Rattle.time.specs.Time.{since, is_exact}
@@ -16,10 +14,10 @@ use Rattle.candidates.specs.declared.Bounds.{Bounds}
 
 -- an upper bound, and a limit where it is valid
 unfoldable pub at_most : Bitrate → Bitrate → Bitrate
-at_most limit bound = cond (finite limit.bps) (smaller bound limit) bound
+at_most limit bound = if finite limit.bps then smaller bound limit else bound
 
 -- the maximum rate ("the maximum stays infinite"); the link capacity counts in ALR alone
-unfoldable pub capacity : Bool → OptionBitrate → Bitrate
+unfoldable pub capacity : Bool → Option Bitrate → Bitrate
 capacity true (Some c) = at_most c max_bitrate
 capacity true None = max_bitrate
 capacity false c = max_bitrate
@@ -28,7 +26,7 @@ capacity false c = max_bitrate
 unfoldable pub in_window : Bounds → Bitrate
 in_window b =
     let limit = b.bandwidth_limit_in_current_window in
-    cond (b.is_limited && finite limit.bps) (smaller limit b.capacity) b.capacity
+    if b.is_limited && finite limit.bps then smaller limit b.capacity else b.capacity
 
 -- 60.0 × the seconds since the estimate was reduced, at most 60.0 of them, / 60.0 (rampup_acceleration)
 unfoldable pub acceleration : TimeDelta → Float
@@ -42,6 +40,6 @@ unfoldable pub upper_bound : Bounds → Bitrate
 upper_bound b =
     let least = at_most b.delay_based_estimate (smaller b.instant_upper_bound (in_window b)) in
     let delta = larger (since b.last_send_time b.last_time_estimate_reduced) zero in
-    cond (finite b.acknowledged_bitrate.bps && is_exact b.last_send_time && is_exact b.last_time_estimate_reduced)
-    (plus least (times b.acknowledged_bitrate (acceleration delta)))
-    least
+    if finite b.acknowledged_bitrate.bps && is_exact b.last_send_time && is_exact b.last_time_estimate_reduced
+    then plus least (times b.acknowledged_bitrate (acceleration delta))
+    else least

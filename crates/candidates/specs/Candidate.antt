@@ -1,5 +1,5 @@
 -- The candidates, at most six ("One report, in order", 3). Definitions only.
-use Rattle.std.specs.Prelude.{Bool, cond, ◌&&◌, List, [], ◌∷◌, ◌++◌, map, length, replicate, take, Float}
+use Rattle.std.specs.Prelude.{Bool, if◌then◌else◌, ◌&&◌, List, [], ◌∷◌, ◌++◌, map, length, replicate, take, Float}
 use Rattle.std.specs.Float.Ieee.{lt}
 use Rattle.std.specs.Float.Ieee.Scale.{finite}
 use Rattle.bandwidth.specs.Rate.{rate, smaller, larger, limited, times}
@@ -23,7 +23,7 @@ above delay current = finite delay.bps && lt current.bps delay.bps
 
 -- one rate under a condition
 abbrev pub only : Bool → Bitrate → List Bitrate
-only wanted r = cond wanted (r ∷ []) []
+only wanted r = if wanted then r ∷ [] else []
 
 -- 1.02, 1.00 and 0.95 times the current rate; the delay estimate if finite and above the current; the acknowledged rate × 1.0 if finite;
 -- the delay estimate × 1.0 under its earlier condition
@@ -44,11 +44,8 @@ cut current bound bandwidth = limited (finite bandwidth.bps) (smaller bandwidth 
 -- "then its inherent loss made feasible"; it is the current one
 unfoldable pub candidate : ChannelParameters → Bitrate → Bitrate → ChannelParameters
 candidate current bound bandwidth =
-    let r = cut current.loss_limited_bandwidth bound bandwidth in
-    record {
-      inherent_loss = feasible (record { inherent_loss = current.inherent_loss; loss_limited_bandwidth = r });
-      loss_limited_bandwidth = r;
-    }
+    let c = record current { loss_limited_bandwidth = cut current.loss_limited_bandwidth bound bandwidth } in
+    record c { inherent_loss = feasible c }
 
 -- ---- six places
 

@@ -1,14 +1,14 @@
 -- When two controllers are the same, part by part: every field of the Rust's structs, floats by their bits. Definitions only.
-use Rattle.std.specs.Prelude.{Bool, true, false, not, ◌&&◌, ◌||◌, List, [], ◌∷◌, eqb, Float}
+use Rattle.std.specs.Prelude.{ℕ, Bool, not, ◌&&◌, ◌||◌, List, ◌==◌, nat_eq, Option, Float}
 use Rattle.std.specs.Bool.{beq}
 use Rattle.std.specs.Float.{binary64}
 use Rattle.std.specs.Float.Ieee.{to_bits}
-use Rattle.time.specs.Order.{is_eq}
+use Rattle.std.specs.Ordering.{is_eq}
+use Rattle.std.specs.Option.{option_eq}
+use Rattle.std.specs.Cmp.Lexicographic.{pointwise}
 use Rattle.time.specs.Time as Time
 use Rattle.time.specs.declared.Timestamp.{Timestamp}
 use Rattle.bandwidth.specs.declared.Bitrate.{Bitrate}
-use Rattle.bandwidth.specs.declared.OptionBitrate.{OptionBitrate}
-use Rattle.bandwidth.specs.declared.OptionBitrate.TheVariants.{Some, None}
 use Rattle.likelihood.specs.declared.ChannelParameters.{ChannelParameters}
 use Rattle.observation.specs.declared.Observation.{Observation}
 use Rattle.observation.specs.declared.PartialObservation.{PartialObservation}
@@ -16,13 +16,11 @@ use Rattle.estimator.specs.State.{number}
 use Rattle.estimator.specs.declared.Estimator.{Estimator}
 use Rattle.estimator.specs.declared.HoldInfo.{HoldInfo}
 use Rattle.estimator.specs.declared.Recovery.{Recovery}
-use Rattle.loss_controller.specs.declared.OptionInstant.{OptionInstant}
-use Rattle.loss_controller.specs.declared.OptionInstant.TheVariants.{Some as On, None as Off}
 use Rattle.loss_controller.specs.declared.LossController.{LossController}
 use Rattle.comparison.specs.declared.Changes.{Changes}
 
 unfoldable pub float : Float → Float → Bool
-float a b = eqb (to_bits binary64 a) (to_bits binary64 b)
+float a b = (to_bits binary64 a == to_bits binary64 b)
 
 unfoldable pub rate : Bitrate → Bitrate → Bool
 rate a b = float a.bps b.bps
@@ -30,40 +28,35 @@ rate a b = float a.bps b.bps
 unfoldable pub time : Timestamp → Timestamp → Bool
 time a b = is_eq (Time.order a b)
 
-unfoldable pub option : OptionBitrate → OptionBitrate → Bool
-option (Some a) (Some b) = rate a b
-option (Some a) None = false
-option None (Some b) = false
-option None None = true
+abbrev pub option : Option Bitrate → Option Bitrate → Bool
+option = option_eq rate
 
-unfoldable pub instant : OptionInstant → OptionInstant → Bool
-instant (On a) (On b) = eqb a b
-instant (On a) Off = false
-instant Off (On b) = false
-instant Off Off = true
+abbrev pub instant : Option ℕ → Option ℕ → Bool
+instant = option_eq nat_eq
 
 -- ---- the observations
 
 abbrev pub sums : PartialObservation → PartialObservation → Bool
 sums a b =
-    eqb a.num_packets b.num_packets
-    && eqb a.num_lost_packets b.num_lost_packets
-    && eqb a.size b.size
-    && eqb a.lost_size b.lost_size
+    (a.num_packets == b.num_packets)
+    && ((a.num_lost_packets == b.num_lost_packets)
+    && ((a.size == b.size)
+    && (a.lost_size == b.lost_size)))
 
 unfoldable pub observation : Observation → Observation → Bool
 observation a b =
-    (eqb a.num_packets b.num_packets && eqb a.num_lost_packets b.num_lost_packets)
-    && eqb a.num_received_packets b.num_received_packets
-    && (eqb a.size b.size && eqb a.lost_size b.lost_size)
-    && (eqb a.id b.id && beq a.is_initialized b.is_initialized)
+    (a.num_packets == b.num_packets)
+    && (a.num_lost_packets == b.num_lost_packets)
+    && (a.num_received_packets == b.num_received_packets)
+    && (a.size == b.size)
+    && (a.lost_size == b.lost_size)
+    && (a.id == b.id)
+    && beq a.is_initialized b.is_initialized
     && rate a.sending_rate b.sending_rate
 
-unfoldable pub window : List Observation → List Observation → Bool
-window [] [] = true
-window [] (b ∷ bs) = false
-window (a ∷ as') [] = false
-window (a ∷ as') (b ∷ bs) = observation a b && window as' bs
+-- slot after slot
+abbrev pub window : List Observation → List Observation → Bool
+window = pointwise observation
 
 -- ---- the estimator
 
@@ -72,7 +65,7 @@ parameters a b =
     float a.inherent_loss b.inherent_loss && rate a.loss_limited_bandwidth b.loss_limited_bandwidth
 
 unfoldable pub hold : HoldInfo → HoldInfo → Bool
-hold a b = time a.timestamp b.timestamp && eqb a.duration.nanos b.duration.nanos && rate a.rate b.rate
+hold a b = time a.timestamp b.timestamp && (a.duration.nanos == b.duration.nanos) && rate a.rate b.rate
 
 unfoldable pub recovery : Recovery → Recovery → Bool
 recovery a b =
@@ -81,7 +74,7 @@ recovery a b =
 
 unfoldable pub estimator : Estimator → Estimator → Bool
 estimator a b =
-    eqb (number a.state) (number b.state)
+    (number a.state == number b.state)
     && parameters a.current_estimate b.current_estimate
     && hold a.last_hold_info b.last_hold_info
     && time a.last_time_estimate_reduced b.last_time_estimate_reduced
@@ -100,7 +93,7 @@ changes a b =
       profile = not (beq o.use_byte_loss_ratio p.use_byte_loss_ratio);
       sums = not (sums o.partial_observation p.partial_observation);
       time = not (time o.last_send_time_most_recent_observation p.last_send_time_most_recent_observation);
-      count = not (eqb o.num_observations p.num_observations);
+      count = not (o.num_observations == p.num_observations);
       window = not (window o.observations p.observations);
       ceiling = not (option o.cached_instant_upper_bound p.cached_instant_upper_bound);
       estimator = not (estimator a.estimator b.estimator);

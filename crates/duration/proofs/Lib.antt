@@ -1,3 +1,1 @@
-pub mod Nearest
-pub mod Nanos
-pub mod Parted
+pub mod Std

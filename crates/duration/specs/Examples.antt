@@ -1,13 +1,22 @@
 -- Worked examples of the definitions beside this file, by bit patterns, which antt computes; those of `from_seconds` answer as Rust's
 -- Duration::try_from_secs_f64 does. They test the definitions; no proof cites them.
-use Rattle.std.specs.Prelude.{◌≡◌, ℕ, ◌-◌, ◌^◌, List, [], ◌∷◌, map, refl}
+use Rattle.std.specs.Prelude.{◌≡◌, ℕ, ◌-◌, ◌^◌, List, [], ◌∷◌, map, refl, Result, Ok, Err}
 use Rattle.std.specs.Float.Ieee.{add, div, lt, mul, of_bits, of_int}
 use Rattle.float.specs.Rounded.{◌⊗◌, bits}
-use Rattle.duration.specs.Nanos.{answered as ns, refused, fitted, minus, over}
+use Rattle.refusal.specs.declared.Refusal.{Refusal}
+use Rattle.refusal.specs.declared.Refusal.TheVariants.{Arithmetic}
+use Rattle.duration.specs.Nanos.{fitted, minus, over}
 use Rattle.duration.specs.Seconds.{seconds, nearest_nanos, from_seconds}
-use Rattle.duration.specs.declared.DurationAnswer.{DurationAnswer}
+use Rattle.duration.specs.declared.Duration.{Duration}
 
-each : List ℕ → List DurationAnswer
+-- n ns
+abbrev ns : ℕ → Result Duration Refusal
+ns n = Ok (record { nanos = n })
+
+abbrev refused : Result Duration Refusal
+refused = Err Arithmetic
+
+each : List ℕ → List (Result Duration Refusal)
 each = map (λ b. from_seconds (bits b))
 
 -- 1/1024 s is 976562.5 ns and 3/1024 s is 2929687.5 ns: each tie goes to the even one

@@ -1,12 +1,13 @@
 -- Durations and their seconds as floats. Definitions only.
-use Rattle.std.specs.Prelude.{ℕ, ◌*◌, ◌/◌, ◌%◌, ◌<◌, true, false, cond, pos, Float}
+use Rattle.std.specs.Prelude.{ℕ, ◌*◌, ◌/◌, ◌%◌, if◌then◌else◌, pos, Float, Result, Err}
 use Rattle.std.specs.Float.{nan, inf, fin, binary64}
 use Rattle.std.specs.Float.Ieee.{of_int, up, down, lt}
 use Rattle.std.specs.Float.Ieee.Nearest.{closest}
 use Rattle.float.specs.Rounded.{◌⊕◌, ◌⊘◌, bits}
-use Rattle.duration.specs.Nanos.{refused, fitted}
+use Rattle.refusal.specs.declared.Refusal.{Refusal}
+use Rattle.refusal.specs.declared.Refusal.TheVariants.{Arithmetic}
+use Rattle.duration.specs.Nanos.{fitted}
 use Rattle.duration.specs.declared.Duration.{Duration}
-use Rattle.duration.specs.declared.DurationAnswer.{DurationAnswer}
 
 -- a second in ns, and as a float
 abbrev pub nanos_per_second : ℕ
@@ -28,16 +29,7 @@ nearest_nanos (inf s) = 0
 nearest_nanos (fin s m e) = closest (m * up e * nanos_per_second) (down e)
 
 -- that, refused where it fits no u64, or x is negative or no number (Duration::from_secs_f64); -0.0 is 0 ns
-unfoldable pub from_seconds : Float → DurationAnswer
-from_seconds nan = refused
-from_seconds (inf s) = refused
-from_seconds (fin s m e) = cond (lt (fin s m e) (bits 0)) refused (fitted (nearest_nanos (fin s m e)))
-
--- ---- what the code's private functions require of a fraction; no answer is defined by it
-
--- a fraction of one: finite, below 1.0, and with no minus sign
-abbrev pub Proper : Float → Type 0
-Proper nan = ⊥
-Proper (inf s) = ⊥
-Proper (fin true m e) = ⊥
-Proper (fin false m e) = m * up e < down e
+unfoldable pub from_seconds : Float → Result Duration Refusal
+from_seconds nan = Err Arithmetic
+from_seconds (inf s) = Err Arithmetic
+from_seconds (fin s m e) = if lt (fin s m e) (bits 0) then Err Arithmetic else fitted (nearest_nanos (fin s m e))

@@ -1,12 +1,14 @@
 -- Worked examples of the definitions in specs/, which antt computes; the answers are those of the Rust. They test the definitions; no proof
 -- cites them.
-use Rattle.std.specs.Prelude.{ℕ, ◌^◌, ◌-◌, ◌≡◌, refl, List, [], ◌∷◌, map}
+use Rattle.std.specs.Prelude.{ℕ, ◌^◌, ◌-◌, ◌≡◌, refl, List, [], ◌∷◌, map, Result, Err}
+use Rattle.std.specs.Result.{result_unwrap_or}
 use Rattle.std.specs.Float.{binary64}
 use Rattle.std.specs.Float.Ieee.{add, div, eq, is_nan, le, lt, mul, of_bits, of_int, to_bits}
 use Rattle.float.specs.Rounded.{bits}
 use Rattle.float.specs.Rust.{minimum, maximum}
-use Rattle.integer.specs.Fitted.{ordered}
-use Rattle.duration.specs.Seconds.{seconds, nearest_nanos, from_seconds}
+use Rattle.refusal.specs.declared.Refusal.{Refusal}
+use Rattle.refusal.specs.declared.Refusal.TheVariants.{Arithmetic}
+use Rattle.duration.specs.Seconds.{seconds, nearest_nanos}
 use Rattle.bandwidth.specs.Rate as Rate
 use Rattle.duration.specs.Nanos as Nanos
 use Rattle.time.specs.Time as Time
@@ -19,13 +21,12 @@ use Rattle.estimator.specs.Increase as Increase
 use Rattle.estimator.specs.Update as Update
 use Rattle.estimator.specs.declared.LossControllerState.TheVariants.{Decreasing, DelayBased}
 use Rattle.estimator.specs.declared.Estimator.{Estimator}
-use Rattle.estimator.specs.declared.EstimatorAnswer.{EstimatorAnswer}
 
 -- the next span of a hold: the nearest ns of twice its seconds, 60 s from 30 s on, however long it is
 doubled_examples :
     map (λ n. (Hold.doubled (record { nanos = n })).nanos) (300000000 ∷ 1 ∷ 123456789 ∷ 29999999999 ∷ 30000000000 ∷ 18446744073709551615 ∷ []) ≡
     600000000 ∷ 2 ∷ 246913578 ∷ 59999999998 ∷ 60000000000 ∷ 60000000000 ∷ []
-unfolding add div eq le lt mul of_bits of_int seconds Nanos.fitted nearest_nanos from_seconds Hold.twice Hold.doubled
+unfolding add div le lt mul of_bits of_int seconds nearest_nanos Hold.twice Hold.doubled
 doubled_examples = refl
 
 -- a time in ns, DistantPast as 0
@@ -49,7 +50,7 @@ view e =
     ∷ []
 
 -- one report: the best candidate's rate, at inherent loss 0.02, the ratio, the acknowledged rate and the delay estimate by their bits, and the time
-answer : ℕ → ℕ → ℕ → ℕ → ℕ → Estimator → EstimatorAnswer
+answer : ℕ → ℕ → ℕ → ℕ → ℕ → Estimator → Result Estimator Refusal
 answer best ratio acknowledged delay t e =
     Update.applied e (record { inherent_loss = bits 0x3F947AE147AE147B; loss_limited_bandwidth = Rate.rate (bits best) })
     (record {
@@ -61,7 +62,7 @@ answer best ratio acknowledged delay t e =
 
 report : ℕ → ℕ → ℕ → ℕ → ℕ → Estimator → Estimator
 unfolding answer
-report best ratio acknowledged delay t e = (answer best ratio acknowledged delay t e).estimator
+report best ratio acknowledged delay t e = result_unwrap_or (answer best ratio acknowledged delay t e) e
 
 -- a fresh estimator at 600,000 bit/s
 started : Estimator
@@ -100,7 +101,7 @@ run_examples :
     ∷ (2 ∷ 0x411E848000000000 ∷ 2800000000 ∷ 1200000000 ∷ 0x411E848000000000 ∷ 2200000000 ∷ 2200000000 ∷ 0x4123D62000000000 ∷ [])
     ∷ (0 ∷ 0x412B774000000000 ∷ 0 ∷ 300000000 ∷ 0x7FF0000000000000 ∷ 2200000000 ∷ 2200000000 ∷ 0x4123D62000000000 ∷ [])
     ∷ []
-unfolding add div eq is_nan le lt mul of_bits of_int to_bits minimum maximum ordered seconds nearest_nanos from_seconds Rate.larger Rate.smaller
+unfolding add div eq is_nan le lt mul of_bits of_int to_bits minimum maximum seconds nearest_nanos Rate.larger Rate.smaller
     Rate.limited Rate.times Rate.plus Nanos.fitted Time.plus Time.order Hold.twice Hold.doubled Hold.entered Recovering.window_end Recovering.is_above_limit
     Recovering.bounded Recovering.is_over Recovering.opened Recovering.renewed Increase.not_increased_above_inherent_loss
     Increase.is_estimate_increasing_when_loss_limited Increase.rampup_factor Increase.within_rampup Increase.ramped_up Increase.increase_limited_due_to_loss
@@ -126,7 +127,7 @@ limit_examples :
     2 ∷ 0x430C6BF526340000 ∷ 0 ∷ 300000000 ∷ 0x7FF0000000000000 ∷ 0 ∷ 1000000000 ∷ 0x430C6BF526340000 ∷ []
     × view (report 0x430C6BF526340000 0 0x3FF0000000000000 0x7FF0000000000000 1000000000 (decreasing 0x430C6BF52633FFFC)) ≡
     1 ∷ 0x430C6BF526340000 ∷ 0 ∷ 300000000 ∷ 0x7FF0000000000000 ∷ 0 ∷ 1000000000 ∷ 0x430C6BF526340000 ∷ []
-unfolding add div eq is_nan le lt mul of_bits of_int to_bits minimum maximum ordered seconds Rate.larger Rate.smaller
+unfolding add div eq is_nan le lt mul of_bits of_int to_bits minimum maximum seconds Rate.larger Rate.smaller
     Rate.limited Rate.times Rate.plus Nanos.fitted Time.plus Time.order Recovering.window_end Recovering.is_above_limit
     Recovering.bounded Recovering.is_over Recovering.opened Recovering.renewed Increase.not_increased_above_inherent_loss
     Increase.is_estimate_increasing_when_loss_limited Increase.rampup_factor Increase.within_rampup Increase.ramped_up Increase.increase_limited_due_to_loss
@@ -134,10 +135,10 @@ unfolding add div eq is_nan le lt mul of_bits of_int to_bits minimum maximum ord
     Update.with_new_state Update.decided Update.updated Update.applied nanos view report decreasing
 limit_examples = (refl, refl)
 
--- a hold entered at the last instant would end at none: refused, and unchanged, though the rate is a reduction
+-- a hold entered at the last instant would end at none: refused, though the rate is a reduction
 refused_example :
-    answer 0x4121652000000000 0x3FB999999999999A 0x411E848000000000 0x412E848000000000 (2 ^ 64 - 1) started ≡ Update.unchanged started 7
-unfolding add is_nan eq le lt mul of_bits maximum ordered Rate.larger Rate.limited Rate.times Nanos.fitted Time.plus Time.order Hold.entered Recovering.window_end
+    answer 0x4121652000000000 0x3FB999999999999A 0x411E848000000000 0x412E848000000000 (2 ^ 64 - 1) started ≡ Err Arithmetic
+unfolding add is_nan eq le lt mul of_bits maximum Rate.larger Rate.limited Rate.times Nanos.fitted Time.plus Time.order Hold.entered Recovering.window_end
     Recovering.is_over Recovering.opened Recovering.renewed Increase.not_increased_above_inherent_loss Increase.is_estimate_increasing_when_loss_limited
     Increase.increase_limited Update.with_reduction_noted Update.is_in_hold Update.is_limiting Update.new_state Update.new_hold_info Update.with_new_state
     Update.decided Update.updated Update.applied answer started

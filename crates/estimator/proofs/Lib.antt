@@ -1,3 +1,4 @@
+pub mod Constants
 pub mod Span
 pub mod Steady
 mod Examples

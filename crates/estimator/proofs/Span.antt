@@ -1,23 +1,15 @@
--- The hold's doubled span: below 60.0 s nothing is refused and 60 s is not passed, so that `doubled` is the Rust's minimum of 60 s and the span.
--- Assumes nothing.
-use mathlib.Core.Path.{◌≡◌, refl, sym, ◌∙◌}
-use mathlib.Core.Bool.{Bool, true, false, ◌&&◌, ◌||◌, cond, true≢false, false≢true}
-use Prim.Native.Nat.{ℕ, ◌*◌, ◌%◌, ◌/◌, ◌^◌, ◌≤◌, ◌<◌, min}
-use native.Mathlib.Nat.{zero-mul, min-eq_left, min-eq_right, min-le_left}
-use native.Mathlib.Omega.{arith}
-use borrow.Author.Tests.{ltb-true, ltb-false, eqb-true, eqb-false, lt-ltb, le-ltb}
-use lib.Dec.{T, ltb, eqb, lit<, lit≤}
-use lib.IntN.{ℤ, pos}
+-- The hold's doubled span: below 60.0 s the seconds are a duration, and 60 s is not passed, so that `doubled` is the Rust's minimum of 60 s and that
+-- duration. Assumes nothing.
+use Rattle.std.proofs.Common.{◌≡◌, ℕ, ◌*◌, ◌%◌, ◌/◌, ◌≤◌, min, Bool, true, false, cond, T, ℤ, pos, Ok, refl, sym, ap, ◌∙◌, true≢false, arith, rules, lit<, lit≤}
+use Rattle.std.proofs.lemmas.Bool.Decides.{nat_tests}
 use lib.Ieee.{Float, inf, fin, binary64, up, down, mul, div, lt, eq, le, of_int, of_bits}
 use lib.Ieee.Fits.{down_pos}
 use lib.Ieee.Nearest.{closest, closest_mono}
 use Rattle.float.specs.Rounded.{◌⊗◌, ◌⊘◌, bits}
 use Rattle.float.proofs.NotNegative.{upward, round_upward, add_upward}
-use Rattle.float.proofs.Refusal.{accepted}
-use Rattle.duration.specs.Nanos.{refused, fitted}
+use Rattle.duration.specs.Nanos.{ns, fitted}
 use Rattle.duration.specs.Seconds.{nanos_per_second, billion, seconds, nearest_nanos, from_seconds}
 use Rattle.duration.specs.declared.Duration.{Duration}
-use Rattle.duration.specs.declared.DurationAnswer.{DurationAnswer}
 use Rattle.config.specs.Config.{hold_duration_factor, max_hold_duration}
 use Rattle.estimator.specs.Hold.{sixty, twice, doubled}
 
@@ -48,17 +40,6 @@ twice_upward d =
 
 -- ---- against 60.0
 
--- a ≤ b, as `le` tests it of two fractions without sign
-not_above : (a b : ℕ) (p q : Bool) → ltb a b ≡ p → eqb a b ≡ q → (p || q && true) ≡ true → a ≤ b
-not_above a b true q h k z = omega (arith, ltb-true a b h)
-not_above a b false true h k z = omega (arith, eqb-true a b k)
-not_above a b false false h k z = absurd (false≢true z)
-
-above : (a b : ℕ) (p q : Bool) → ltb a b ≡ p → eqb a b ≡ q → (p || q && true) ≡ false → b < a
-above a b true q h k z = absurd (true≢false z)
-above a b false true h k z = absurd (true≢false z)
-above a b false false h k z = omega (arith, ltb-false a b h, eqb-false a b k)
-
 module _ (m : ℕ) (e : ℤ) where
   abbrev nanos : ℕ
   nanos = closest (m * up e * nanos_per_second) (down e)
@@ -66,20 +47,20 @@ module _ (m : ℕ) (e : ℤ) where
   below_sixty : le sixty (fin false m e) ≡ false → nanos ≤ 60000000000
   unfolding le lt eq of_bits
   below_sixty h =
-      let l = above (60 * down e) (m * up e * 1) _ _ refl refl h in
+      let l : m * up e * 1 ≤ 60 * down e = grind (arith, nat_tests) in
       closest_mono (m * up e * nanos_per_second) (down e) 60000000000 1 (down_pos e) (lit< tt) (omega arith)
 
   from_sixty : le sixty (fin false m e) ≡ true → 60000000000 ≤ nanos
   unfolding le lt eq of_bits
   from_sixty h =
-      let l = not_above (60 * down e) (m * up e * 1) _ _ refl refl h in
+      let l : 60 * down e ≤ m * up e * 1 = grind (arith, nat_tests) in
       closest_mono 60000000000 1 (m * up e * nanos_per_second) (down e) (lit< tt) (down_pos e) (omega arith)
 
 -- ---- seconds to ns
 
 not_negative : (m : ℕ) (e : ℤ) → lt (fin false m e) (bits 0) ≡ false
 unfolding lt of_bits
-not_negative m e = le-ltb (m * up e * 1) (0 * down e) (omega (arith, zero-mul (down e)))
+not_negative m e = grind (arith, nat_tests)
 
 from_finite : (m : ℕ) (e : ℤ) → from_seconds (fin false m e) ≡ fitted (nanos m e)
 unfolding from_seconds nearest_nanos
@@ -89,47 +70,47 @@ infinity_long : le sixty (inf false) ≡ true
 unfolding le lt of_bits
 infinity_long = refl
 
-infinity_refused : (from_seconds (inf false)).refusal ≡ 7
-unfolding from_seconds
-infinity_refused = refl
-
-fitted_nanos : (n : ℕ) → (fitted n).refusal ≡ 0 → (fitted n).duration.nanos ≡ n
+fitted_nanos : (k : ℕ) (n : Duration) → fitted k ≡ Ok n → n ≡ ns k
 unfolding fitted
-fitted_nanos n h = rw (accepted (λ (a : DurationAnswer). a.refusal) _ refused (ltb n (2 ^ 64)) (lit< tt) h)
+fitted_nanos k n h = grind (arith, nat_tests)
 
-taken : (x : Float) → T (upward x) → le sixty x ≡ false → (from_seconds x).refusal ≡ 0
-unfolding fitted
+taken : (x : Float) → T (upward x) → le sixty x ≡ false → from_seconds x ≡ Ok (ns (nearest_nanos x))
+unfolding fitted nearest_nanos
 taken lib.Ieee.nan p h = elim p [ ]
 taken (inf true) p h = elim p [ ]
 taken (fin true m e) p h = elim p [ ]
 taken (inf false) p h = absurd (true≢false (sym infinity_long ∙ h))
-taken (fin false m e) p h = rw (from_finite m e, lt-ltb (nanos m e) (2 ^ 64) (omega (arith, below_sixty m e h)))
+taken (fin false m e) p h =
+    let l = below_sixty m e h in
+    rw (from_finite m e) (grind (arith, nat_tests))
 
-smaller : (x : Float) (b : Bool) → T (upward x) → le sixty x ≡ b → (from_seconds x).refusal ≡ 0
-    → (cond b max_hold_duration (from_seconds x).duration).nanos ≡ min 60000000000 (from_seconds x).duration.nanos
-smaller lib.Ieee.nan b p h k = elim p [ ]
-smaller (inf true) b p h k = elim p [ ]
-smaller (fin true m e) b p h k = elim p [ ]
-smaller (inf false) b p h k = absurd (omega (arith, infinity_refused))
-smaller (fin false m e) true p h k =
-    let n = fitted_nanos (nanos m e) (rw (from_finite m e) at k) in
-    rw (from_finite m e, n, min-eq_left (from_sixty m e h))
-smaller (fin false m e) false p h k =
-    let n = fitted_nanos (nanos m e) (rw (from_finite m e) at k) in
-    rw (from_finite m e, n, min-eq_right (below_sixty m e h))
+smaller : (x : Float) (n : Duration) (b : Bool) → T (upward x) → le sixty x ≡ b → from_seconds x ≡ Ok n
+    → (cond b max_hold_duration (ns (nearest_nanos x))).nanos ≡ min 60000000000 n.nanos
+unfolding from_seconds nearest_nanos
+smaller lib.Ieee.nan n b p h k = elim p [ ]
+smaller (inf true) n b p h k = elim p [ ]
+smaller (fin true m e) n b p h k = elim p [ ]
+smaller (inf false) n b p h k = search rules
+smaller (fin false m e) n true p h k =
+    let same = fitted_nanos (nanos m e) n (rw (from_finite m e) at k) in
+    omega (arith, ap (λ (d : Duration). d.nanos) same, from_sixty m e h)
+smaller (fin false m e) n false p h k =
+    let same = fitted_nanos (nanos m e) n (rw (from_finite m e) at k) in
+    omega (arith, ap (λ (d : Duration). d.nanos) same, below_sixty m e h)
 
--- below 60.0 s the doubled seconds are not refused
-pub doubled_taken : (d : Duration) → le sixty (twice d) ≡ false → (from_seconds (twice d)).refusal ≡ 0
-doubled_taken d = taken (twice d) (twice_upward d)
-
--- wherever they are not, the span is the smaller of 60 s and theirs (MAX_HOLD_DURATION.min)
-pub doubled_is_minimum : (d : Duration) → (from_seconds (twice d)).refusal ≡ 0 → (doubled d).nanos ≡ min 60000000000 (from_seconds (twice d)).duration.nanos
+-- below 60.0 s the doubled seconds are a duration, which is the span
+pub doubled_taken : (d : Duration) → le sixty (twice d) ≡ false → from_seconds (twice d) ≡ Ok (doubled d)
 unfolding doubled
-doubled_is_minimum d = smaller (twice d) (le sixty (twice d)) (twice_upward d) refl
+doubled_taken d h = rw h (taken (twice d) (twice_upward d) h)
 
-short : (x : Float) (b : Bool) → T (upward x) → le sixty x ≡ b → (cond b max_hold_duration (from_seconds x).duration).nanos ≤ 60000000000
+-- wherever they are one, the span is the smaller of 60 s and theirs (MAX_HOLD_DURATION.min)
+pub doubled_is_minimum : (d n : Duration) → from_seconds (twice d) ≡ Ok n → (doubled d).nanos ≡ min 60000000000 n.nanos
+unfolding doubled
+doubled_is_minimum d n = smaller (twice d) n (le sixty (twice d)) (twice_upward d) refl
+
+short : (x : Float) (b : Bool) → T (upward x) → le sixty x ≡ b → (cond b max_hold_duration (ns (nearest_nanos x))).nanos ≤ 60000000000
 short x true p h = lit≤ tt
-short x false p h = rw (smaller x false p h (taken x p h)) (min-le_left _ _)
+short x false p h = omega (arith, smaller x _ false p h (taken x p h))
 
 pub doubled_short : (d : Duration) → (doubled d).nanos ≤ 60000000000
 unfolding doubled

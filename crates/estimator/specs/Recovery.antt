@@ -1,20 +1,19 @@
 -- The recovery after loss: the window in which a limit bounds the estimate. Definitions only.
-use Rattle.std.specs.Prelude.{Bool, cond, not, ◌&&◌, ◌||◌, eqb}
+use Rattle.std.specs.Prelude.{Bool, not, ◌&&◌, ◌||◌, if◌then◌else◌, Result, Ok}
 use Rattle.std.specs.Float.Ieee.{lt}
+use Rattle.refusal.specs.Outcome.{and_then}
+use Rattle.refusal.specs.declared.Refusal.{Refusal}
 use Rattle.bandwidth.specs.Rate as Rate
 use Rattle.bandwidth.specs.declared.Bitrate.{Bitrate}
-use Rattle.bandwidth.specs.declared.RateAnswer.{RateAnswer}
-use Rattle.time.specs.Order.{is_gt, is_lt}
+use Rattle.std.specs.Ordering.{is_gt, is_lt}
 use Rattle.time.specs.Time as Time
 use Rattle.time.specs.declared.TimeDelta.TheVariants.{Positive}
 use Rattle.time.specs.declared.Timestamp.{Timestamp}
 use Rattle.time.specs.declared.Timestamp.TheVariants.{DistantPast}
-use Rattle.time.specs.declared.TimestampAnswer.{TimestampAnswer}
 use Rattle.config.specs.Config.{delayed_increase_window, congestion_controller_min_bitrate, conf_max_increase_factor}
 use Rattle.estimator.specs.State.{is_limited_due_to_loss}
 use Rattle.estimator.specs.declared.LossControllerState.{LossControllerState}
 use Rattle.estimator.specs.declared.Recovery.{Recovery}
-use Rattle.estimator.specs.declared.RecoveryAnswer.{RecoveryAnswer}
 
 -- LossController::new; the limit is Bitrate::MAX
 abbrev pub initial : Recovery
@@ -24,11 +23,8 @@ initial =
       bandwidth_limit_in_current_window = Rate.nearest 18446744073709551615;
     }
 
-abbrev pub answered : Recovery → RecoveryAnswer
-answered w = record { recovery = w; refusal = 0 }
-
 -- recovering_after_loss_timestamp + delayed_increase_window
-unfoldable pub window_end : Recovery → TimestampAnswer
+unfoldable pub window_end : Recovery → Result Timestamp Refusal
 window_end w = Time.plus w.recovering_after_loss_timestamp (Positive delayed_increase_window)
 
 -- ---- before the choice of the state
@@ -40,12 +36,9 @@ is_above_limit w best end t =
     && (is_gt (Time.order end t) && lt w.bandwidth_limit_in_current_window.bps best.bps)
 
 -- "Bound the estimate increase": the best rate is then the limit; refused where the window's end is
-unfoldable pub bounded : Recovery → Bitrate → Timestamp → RateAnswer
+unfoldable pub bounded : Recovery → Bitrate → Timestamp → Result Bitrate Refusal
 bounded w best t =
-    let end = window_end w in
-    cond (eqb end.refusal 0)
-    (Rate.answered (cond (is_above_limit w best end.time t) w.bandwidth_limit_in_current_window best))
-    Rate.refused
+    and_then (window_end w) (λ end. Ok (if is_above_limit w best end t then w.bandwidth_limit_in_current_window else best))
 
 -- ---- after it
 
@@ -63,11 +56,8 @@ opened best t =
     }
 
 -- in a state that loss limits, a new window where none runs; refused where its end is
-unfoldable pub renewed : Recovery → LossControllerState → Bitrate → Timestamp → RecoveryAnswer
+unfoldable pub renewed : Recovery → LossControllerState → Bitrate → Timestamp → Result Recovery Refusal
 renewed w state best t =
-    let end = window_end w in
-    cond (is_limited_due_to_loss state)
-    (cond (eqb end.refusal 0)
-    (answered (cond (is_over w end.time t) (opened best t) w))
-    (record { recovery = w; refusal = end.refusal }))
-    (answered w)
+    if is_limited_due_to_loss state
+    then and_then (window_end w) (λ end. Ok (if is_over w end t then opened best t else w))
+    else Ok w

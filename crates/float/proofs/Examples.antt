@@ -1,12 +1,13 @@
 -- Worked examples of the definitions in specs/, by bit patterns, which antt computes. They test the definitions; no proof cites them.
-use Rattle.std.specs.Prelude.{◌≡◌, ℕ, ◌-◌, ◌^◌, true, false, List, [], ◌∷◌, map, pos, negsuc, refl, Float}
+use Rattle.std.specs.Prelude.{◌≡◌, ℕ, ◌-◌, ◌^◌, true, false, List, [], ◌∷◌, map, pos, negsuc, refl, Float, Some, None, Ok, Err}
 use Rattle.std.specs.Float.{binary64}
 use Rattle.std.specs.Float.Ieee.{of_bits, to_bits, is_nan, eq, lt, le, round, to_signed, to_unsigned}
 use Rattle.float.specs.Rounded.{bits}
 use Rattle.float.specs.Rust.{magnitude, minimum, maximum, ceiling, half_away, sign_bit}
-use Rattle.float.specs.Order.{partial_order}
-use Rattle.float.specs.Answer.{answered, refused, first_refusal, clamped}
-use Rattle.float.specs.declared.PartialOrdering.TheVariants.{Less, Equal, Greater, Unordered}
+use Rattle.std.specs.Ordering.{float_partial_cmp}
+use Rattle.refusal.specs.declared.Refusal.TheVariants.{Arithmetic}
+use Rattle.float.specs.Answer.{clamped}
+use Rattle.std.specs.declared.cmp.Ordering.TheVariants.{Less, Equal, Greater}
 
 each : (Float → Float) → List ℕ → List ℕ
 each f = map (λ b. to_bits binary64 (f (bits b)))
@@ -50,16 +51,12 @@ max_examples = (refl, refl, refl)
 
 -- clamp between 1.0 and 2.0; a NaN stays; a lower bound above the upper and a NaN bound are refused
 clamp_examples :
-    clamped (bits 0) (bits 0x3FF0000000000000) (bits 0x4000000000000000) ≡ answered (bits 0x3FF0000000000000)
-    × clamped (bits 0x7FF8000000000000) (bits 0x3FF0000000000000) (bits 0x4000000000000000) ≡ answered (bits 0x7FF8000000000000)
-    × clamped (bits 0) (bits 0x4000000000000000) (bits 0x3FF0000000000000) ≡ refused
-    × clamped (bits 0) (bits 0x7FF8000000000000) (bits 0x3FF0000000000000) ≡ refused
+    clamped (bits 0) (bits 0x3FF0000000000000) (bits 0x4000000000000000) ≡ Ok (bits 0x3FF0000000000000)
+    × clamped (bits 0x7FF8000000000000) (bits 0x3FF0000000000000) (bits 0x4000000000000000) ≡ Ok (bits 0x7FF8000000000000)
+    × clamped (bits 0) (bits 0x4000000000000000) (bits 0x3FF0000000000000) ≡ Err Arithmetic
+    × clamped (bits 0) (bits 0x7FF8000000000000) (bits 0x3FF0000000000000) ≡ Err Arithmetic
 unfolding clamped of_bits lt le
 clamp_examples = (refl, refl, refl, refl)
-
--- the first refusal: none, the second, the first, the first of two
-refusal_examples : map (first_refusal 0) (0 ∷ 7 ∷ []) ≡ 0 ∷ 7 ∷ [] × map (first_refusal 6) (0 ∷ 7 ∷ []) ≡ 6 ∷ 6 ∷ []
-refusal_examples = (refl, refl)
 
 -- ---- sign and order
 
@@ -76,13 +73,13 @@ sign_examples = (refl, refl)
 
 -- -infinity, -0.0, 0.0, infinity and NaN against each; NaN against NaN
 order_examples :
-    map (λ b. partial_order (bits 0xFFF0000000000000) (bits b)) ascending ≡ Equal ∷ Less ∷ Less ∷ Less ∷ Less ∷ Less ∷ Less ∷ []
-    × map (λ b. partial_order (bits 0x8000000000000000) (bits b)) ascending ≡ Greater ∷ Greater ∷ Greater ∷ Equal ∷ Equal ∷ Less ∷ Less ∷ []
-    × map (λ b. partial_order (bits 0) (bits b)) ascending ≡ Greater ∷ Greater ∷ Greater ∷ Equal ∷ Equal ∷ Less ∷ Less ∷ []
-    × map (λ b. partial_order (bits 0x7FF0000000000000) (bits b)) ascending ≡ Greater ∷ Greater ∷ Greater ∷ Greater ∷ Greater ∷ Greater ∷ Equal ∷ []
-    × map (λ b. partial_order (bits 0x7FF8000000000000) (bits b)) ascending ≡ map (λ b. Unordered) ascending
-    × map (λ b. partial_order (bits b) (bits 0x7FF8000000000000)) (0 ∷ 0x7FF0000000000000 ∷ 0x7FF8000000000000 ∷ []) ≡ Unordered ∷ Unordered ∷ Unordered ∷ []
-unfolding partial_order eq lt of_bits
+    map (λ b. float_partial_cmp (bits 0xFFF0000000000000) (bits b)) ascending ≡ map Some (Equal ∷ Less ∷ Less ∷ Less ∷ Less ∷ Less ∷ Less ∷ [])
+    × map (λ b. float_partial_cmp (bits 0x8000000000000000) (bits b)) ascending ≡ map Some (Greater ∷ Greater ∷ Greater ∷ Equal ∷ Equal ∷ Less ∷ Less ∷ [])
+    × map (λ b. float_partial_cmp (bits 0) (bits b)) ascending ≡ map Some (Greater ∷ Greater ∷ Greater ∷ Equal ∷ Equal ∷ Less ∷ Less ∷ [])
+    × map (λ b. float_partial_cmp (bits 0x7FF0000000000000) (bits b)) ascending ≡ map Some (Greater ∷ Greater ∷ Greater ∷ Greater ∷ Greater ∷ Greater ∷ Equal ∷ [])
+    × map (λ b. float_partial_cmp (bits 0x7FF8000000000000) (bits b)) ascending ≡ map (λ b. None) ascending
+    × map (λ b. float_partial_cmp (bits b) (bits 0x7FF8000000000000)) (0 ∷ 0x7FF0000000000000 ∷ 0x7FF8000000000000 ∷ []) ≡ None ∷ None ∷ None ∷ []
+unfolding eq lt of_bits
 order_examples = (refl, refl, refl, refl, refl, refl)
 
 -- ---- casts

@@ -1,9 +1,6 @@
-pub mod Exact
-pub mod Values
-pub mod Parts
-pub mod Limits
-pub mod Fold
+pub mod Fits
 pub mod Refusal
+pub mod Std
 pub mod Both
 pub mod Each
 pub mod Extremes

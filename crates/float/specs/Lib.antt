@@ -1,5 +1,4 @@
 pub mod Rounded
 pub mod Rust
-pub mod Order
 pub mod Answer
 pub mod Claims

@@ -1,7 +1,7 @@
--- What Rust's methods on f64 answer, where the library has no operation of that name. Definitions only.
+-- What Rust's methods on f64 answer, each in one definition. Definitions only.
 -- The library (lib.Ieee) already has: `finite` for is_finite, `is_nan`, `to_unsigned 64` for `as u64`, `to_signed 63` for `as i64`,
 -- `of_bits` and `to_bits`, which are total, with one NaN, written 7FF8000000000000.
-use Rattle.std.specs.Prelude.{ℕ, ◌+◌, ◌-◌, ◌*◌, ◌/◌, Bool, true, false, cond, is_nan, Float}
+use Rattle.std.specs.Prelude.{ℕ, ◌+◌, ◌-◌, ◌*◌, ◌/◌, Bool, true, false, if◌then◌else◌, is_nan, Float}
 use Rattle.std.specs.Float.{nan, inf, fin, binary64}
 use Rattle.std.specs.Float.Ieee.{up, down, round, lt}
 
@@ -13,10 +13,10 @@ magnitude (fin s m e) = fin false m e
 
 -- f64::min and f64::max: the other operand when one is NaN; of two zeros the first
 unfoldable pub minimum : Float → Float → Float
-minimum a b = cond (is_nan a) b (cond (lt b a) b a)
+minimum a b = if is_nan a then b else (if lt b a then b else a)
 
 unfoldable pub maximum : Float → Float → Float
-maximum a b = cond (is_nan a) b (cond (lt a b) b a)
+maximum a b = if is_nan a then b else (if lt a b then b else a)
 
 -- the float nearest to the whole number n, with the sign s
 abbrev pub nearest_whole : Bool → ℕ → Float

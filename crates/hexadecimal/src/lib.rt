@@ -8,13 +8,7 @@ ghost use Rattle.hexadecimal.specs.Digits.{digit_of, with_digit, value};
 pub fn number(text: &[u8]) -> u64
     ensures { result ≡ value text.now }
 {
-    let mut n: u64 = 0;
-    let mut i = 0;
-    while i < text.len() {
-        n = with_digit(n, text[i]);
-        i += 1;
-    }
-    n
+    text.iter().fold(0, |n, byte| with_digit(n, *byte))
 }
 
 fn with_digit(n: u64, byte: u8) -> u64
@@ -27,17 +21,9 @@ fn digit(byte: u8) -> u64
     ensures value { result ≡ digit_of byte }
     ensures upper_bound { result < 16 }
 {
-    if byte < b'0' {
-        return 0;
+    match byte {
+        b'0'..=b'9' => u64::from(byte - b'0'),
+        b'a'..=b'f' => u64::from(byte - b'a') + 10,
+        _ => 0,
     }
-    if byte <= b'9' {
-        return (byte - b'0') as u64;
-    }
-    if byte < b'a' {
-        return 0;
-    }
-    if byte <= b'f' {
-        return (byte - b'a' + 10) as u64;
-    }
-    0
 }

@@ -1,18 +1,11 @@
 -- Demand 3: after every list of calls. Assumes nothing.
-use Prim.Native.Nat.{ℕ}
-use mathlib.Core.Path.{◌≡◌, ◌∙◌, subst}
-use mathlib.Core.Bool.{Bool, cond}
-use native.Mathlib.Omega.{arith}
-use borrow.Author.Tests.{ne_eqb}
-use lib.Dec.{T, eqb}
+use Rattle.std.proofs.Common.{Bool, cond, Option, IfSome, T, eqb, ◌∙◌, subst, arith, ne_eqb}
 use lib.Ieee.Scale.{finite}
 use Rattle.float.proofs.Refusal.{either, tested}
 use Rattle.rounding.specs.Plain.{plain}
 use Rattle.rounding.proofs.Upward.{upward_plain}
 use Rattle.bandwidth.specs.Rate.{smaller}
 use Rattle.bandwidth.specs.declared.Bitrate.{Bitrate}
-use Rattle.bandwidth.specs.declared.OptionBitrate.{OptionBitrate}
-use Rattle.bandwidth.specs.declared.OptionBitrate.TheVariants.{Some}
 use Rattle.bandwidth.proofs.Limited.{LimitedRate, limited_finite, smaller_limited}
 use Rattle.candidates.specs.Bound.{at_most}
 use Rattle.observation.specs.Ratio.{cached}
@@ -25,7 +18,7 @@ use Rattle.history.specs.Run.{left, told}
 use Rattle.history.specs.Profile.{profile_of}
 use Rattle.history.specs.Demand.{UnderLossCeiling, Demand, Demand3}
 use Rattle.history.proofs.Profile.{keeps_profile}
-use Rattle.history.proofs.Weighed.{tied_counted, tied_ratio, tied_ceiling}
+use Rattle.history.proofs.Weighed.{ratio_taken, counted, ratio_near, ceiling_near}
 use Rattle.history.proofs.Reached.{Reached, ceiling_not_negative}
 use Rattle.history.proofs.Step.{reached}
 use Rattle.history.proofs.Under.{minimum_under}
@@ -47,14 +40,10 @@ module _ (c : LossController) (h : History) (r : Reached c h) where
   ceiling = cached c.observations.cached_instant_upper_bound
 
   -- the estimate is finite, and it or the smallest of the three is published
-  published_by : (P : Bitrate → Type 0) → (T (finite own.bps) → P (cond (eqb c.observations.num_observations 0) own (smaller delayed ceiling)))
-      → (r : Bitrate) → (loss_based_result c).bandwidth_estimate ≡ Some r → P r
+  pub published_by : (P : Bitrate → Type 0) → (T (finite own.bps) → P (cond (eqb c.observations.num_observations 0) own (smaller delayed ceiling)))
+      → IfSome (loss_based_result c).bandwidth_estimate P
   unfolding loss_based_result published
-  published_by P holds r =
-      let chosen = cond (eqb c.observations.num_observations 0) own (smaller delayed ceiling) in
-      tested (λ (o : OptionBitrate). o ≡ Some r → P r) (finite own.bps)
-      (λ f e. let same : chosen ≡ r = cc in subst P same (holds (rw f tt)))
-      (λ f e. let no : ◌≡◌ {A = ℕ} 0 1 = cc in absurd (omega arith))
+  published_by P holds = tested (λ (o : Option Bitrate). IfSome o P) (finite own.bps) (λ f. holds (rw f tt)) (λ f. tt)
 
   delayed_limited : T (finite own.bps) → LimitedRate delayed
   unfolding at_most
@@ -63,12 +52,13 @@ module _ (c : LossController) (h : History) (r : Reached c h) where
       let limited = r.estimator.rates.current f in
       tested LimitedRate (finite delay.bps) (λ e. smaller_limited own delay limited (r.inputs.delay.limited (rw e tt)).forward) (λ e. limited)
 
-  pub published_limited : (r : Bitrate) → (loss_based_result c).bandwidth_estimate ≡ Some r → LimitedRate r
-  published_limited =
+  -- it is limited, so what holds of limited rates holds of it
+  pub published_limited : (P : Bitrate → Type 0) → ((r : Bitrate) → LimitedRate r → P r) → IfSome (loss_based_result c).bandwidth_estimate P
+  published_limited P holds =
       let o = c.observations in
-      published_by LimitedRate
-      (λ f. either LimitedRate (eqb o.num_observations 0) own (smaller delayed ceiling) (r.estimator.rates.current f)
-      (smaller_limited delayed ceiling (delayed_limited f) (ceiling_not_negative o h r.tied)))
+      published_by P
+      (λ f. holds _ (either LimitedRate (eqb o.num_observations 0) own (smaller delayed ceiling) (r.estimator.rates.current f)
+      (smaller_limited delayed ceiling (delayed_limited f) (ceiling_not_negative o h r.tied))))
 
   -- ---- the claim
 
@@ -76,15 +66,15 @@ module _ (c : LossController) (h : History) (r : Reached c h) where
   unfolding average_reported_loss_ratio smaller
   demanded =
       let o = c.observations in
-      let t = r.tied in
+      let w = r.tied.windowed in
       record {
-        counted = t.count;
-        near = λ some. let ratio = tied_ratio o h t some in record { taken = ratio.0; close = ratio.1 };
-        clear = λ published e. limited_plain published (published_limited published e);
-        capped = λ some six. let set = tied_ceiling o h t some six in
-            published_by (λ (r : Bitrate). UnderLossCeiling r.bps (weighed_lost (profile_of c) h) (weighed_total (profile_of c) h))
-            (λ f. rw (ne_eqb o.num_observations 0 (λ z. omega (arith, tied_counted o h t some)), set.0)
-            (minimum_under set.1 (omega (arith, six)) delayed.bps (limited_plain delayed (delayed_limited f))));
+        counted = w.count;
+        near = λ some. rw (ratio_taken o h w) (ratio_near o h w some);
+        clear = published_limited (λ published. T (plain published.bps)) limited_plain;
+        capped = λ some six. let near = ceiling_near o h w some six in
+            published_by (λ published. UnderLossCeiling published.bps (weighed_lost (profile_of c) h) (weighed_total (profile_of c) h))
+            (λ f. rw (ne_eqb o.num_observations 0 (λ z. omega (arith, counted o h w some)), r.tied.ceiling ∙ near.0)
+            (minimum_under near.1 (omega (arith, six)) delayed.bps (limited_plain delayed (delayed_limited f))));
       }
 
 -- and every list leaves one, of the profile that it began with

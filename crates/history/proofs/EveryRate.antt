@@ -1,7 +1,5 @@
 -- A call carries a rate as 64 bits, and no rate is lost by that. Assumes nothing.
-use Prim.Native.Nat.{◌^◌, ◌<◌}
-use mathlib.Core.Path.{◌≡◌, ap}
-use lib.Dec.{T}
+use Rattle.std.proofs.Common.{◌^◌, ◌<◌, ◌≡◌, ap, T}
 use lib.Ieee.{binary64, fits, to_bits}
 use lib.Ieee.Bits.{of_bits-to_bits, to_bits-lt}
 use Rattle.bandwidth.specs.Rate.{rate}

@@ -1,21 +1,22 @@
 -- Worked examples of the definitions in specs/, which antt computes. They test the definitions; no proof cites them.
-use Rattle.std.specs.Prelude.{ℕ, zero, suc, ◌+◌, ◌*◌, ◌≡◌, refl, true, false, List, [], ◌∷◌, ◌++◌, map, length, replicate}
-use Rattle.std.proofs.Math.Option.{none, some}
+use Rattle.std.specs.Prelude.{ℕ, zero, suc, ◌+◌, ◌*◌, ◌≡◌, refl, true, false, List, [], ◌∷◌, ◌++◌, map, length, replicate, Some, None}
+use Rattle.std.specs.List.{list_all}
 use Rattle.std.specs.Float.Ieee.{le, lt, of_bits, of_int, to_bits}
+use Rattle.refusal.specs.Outcome.{number}
 use Rattle.float.specs.Rounded.{bits}
 use Rattle.float.specs.Rust.{sign_bit}
 use Rattle.bandwidth.specs.Rate.{most_rate, nearest}
 use Rattle.logarithm.specs.Ln.{logarithm}
 use Rattle.rounding.specs.Exact.{exact_sum}
-use Rattle.packets.specs.Summary.{columns_refusal, packets, packet_refusal}
-use Rattle.loss_controller.specs.Setters.{rate_refusal}
+use Rattle.packets.specs.Summary.{check_columns, packets, check_packet}
+use Rattle.loss_controller.specs.Setters.{check_rate}
 use Rattle.history.specs.Calls.{Call, estimate, acknowledged, alr, capacity, report, read, Told}
-use Rattle.history.specs.History.{Sums, History, nothing, fresh, switched, bytes_of, lost_bytes_of, lost_packets_of, latest, completed, with_running}
+use Rattle.history.specs.History.{Sums, History, nothing, fresh, switched, completed, with_running}
 use Rattle.history.specs.History.{with_report, heard, fed, after}
 use Rattle.history.specs.WeighedPairs.{pairs, aged, weighed_lost, weighed_total, all_totals}
-use Rattle.history.specs.Refusals.{packets_refusal, report_refusal, refusal_of}
+use Rattle.history.specs.Refusals.{check_report, check_call, refusal_of}
 use Rattle.history.specs.Unreached.{outside_domain}
-use Rattle.history.specs.Finite.{is_report, hands_finite, all, most_bits}
+use Rattle.history.specs.Finite.{is_report, hands_finite, most_bits}
 
 abbrev taken : Call → Told
 taken c = record { call = c; refused = false }
@@ -30,10 +31,10 @@ sums bytes lost_bytes packets lost_packets = record { bytes = bytes; lost_bytes 
 -- the first report sets the time; a span of 250,000,000 ns completes none, and 250,000,001 one, of the bytes and packets so far
 spans :
     after (sent 5 90 10 ∷ sent 250000005 1 0 ∷ []) ≡
-    record { observations = []; running = sums 101 10 4 2; time = some 5; on = false; count = 0 }
+    record { observations = []; running = sums 101 10 4 2; time = Some 5; on = false; count = 0 }
     × after (sent 5 90 10 ∷ sent 250000006 1 0 ∷ []) ≡
-    record { observations = sums 101 10 4 2 ∷ []; running = nothing; time = some 250000006; on = false; count = 1 }
-unfolding fed heard with_report completed with_running bytes_of lost_bytes_of lost_packets_of latest
+    record { observations = sums 101 10 4 2 ∷ []; running = nothing; time = Some 250000006; on = false; count = 1 }
+unfolding fed heard with_report completed with_running
 spans = (refl, refl)
 
 -- refused, empty, read, and a setter other than ALR
@@ -50,12 +51,12 @@ unchanged = refl
 
 -- on empties all but the count, on again changes nothing, off empties again
 changes :
-    after (sent 5 90 10 ∷ sent 250000006 1 0 ∷ sent 250000007 2 0 ∷ taken (alr (some 1)) ∷ []) ≡
-    record { observations = []; running = nothing; time = none; on = true; count = 1 }
-    × after (taken (alr (some 1)) ∷ sent 5 90 10 ∷ taken (alr (some 2)) ∷ []) ≡
-    record { observations = []; running = sums 100 10 2 1; time = some 5; on = true; count = 0 }
-    × after (taken (alr (some 1)) ∷ sent 5 90 10 ∷ taken (alr none) ∷ []) ≡ fresh
-unfolding fed heard switched with_report completed with_running bytes_of lost_bytes_of lost_packets_of latest
+    after (sent 5 90 10 ∷ sent 250000006 1 0 ∷ sent 250000007 2 0 ∷ taken (alr (Some 1)) ∷ []) ≡
+    record { observations = []; running = nothing; time = None; on = true; count = 1 }
+    × after (taken (alr (Some 1)) ∷ sent 5 90 10 ∷ taken (alr (Some 2)) ∷ []) ≡
+    record { observations = []; running = sums 100 10 2 1; time = Some 5; on = true; count = 0 }
+    × after (taken (alr (Some 1)) ∷ sent 5 90 10 ∷ taken (alr None) ∷ []) ≡ fresh
+unfolding fed heard switched with_report completed with_running
 changes = (refl, refl, refl)
 
 -- ---- the window
@@ -69,7 +70,7 @@ counted (suc n) k = sent (k * 300000000) k 0 ∷ counted n (k + 1)
 sixteen : length (after (sent 0 0 0 ∷ counted 16 1)).observations ≡ 15
     × (after (sent 0 0 0 ∷ counted 16 1)).count ≡ 16
     × map (λ use_bytes. all_totals (pairs use_bytes (after (sent 0 0 0 ∷ counted 16 1)))) (true ∷ false ∷ []) ≡ 135 ∷ 30 ∷ []
-unfolding counted fed heard with_report completed with_running bytes_of lost_bytes_of lost_packets_of latest all_totals
+unfolding counted fed heard with_report completed with_running
 sixteen = (refl, refl, refl)
 
 -- 10 of 100 bytes lost, and before that 10 of 1,000, in 1 of 2 packets and 2 of 4: 10^14 and 9 × 10^13
@@ -81,7 +82,7 @@ weighed :
     × weighed_total true two ≡ 100000000000000000
     × weighed_lost false two ≡ 280000000000000
     × weighed_total false two ≡ 560000000000000
-unfolding fed heard with_report completed with_running bytes_of lost_bytes_of lost_packets_of latest aged exact_sum
+unfolding fed heard with_report completed with_running aged exact_sum
 weighed = (refl, refl, refl, refl)
 
 -- ---- packets (Q-7)
@@ -96,7 +97,7 @@ one_third :
     unequal.observations ≡ sums 1020 1000 3 1 ∷ []
     × 1020 * weighed_lost true unequal ≡ 1000 * weighed_total true unequal
     × 3 * weighed_lost false unequal ≡ weighed_total false unequal
-unfolding fed heard with_report completed with_running bytes_of lost_bytes_of lost_packets_of latest aged exact_sum
+unfolding fed heard with_report completed with_running aged exact_sum
 one_third = (refl, refl, refl)
 
 -- packets of zero bytes, one of four lost: the window has packets and no bytes
@@ -108,7 +109,7 @@ zero_bytes :
     × all_totals (pairs false hollow) ≡ 4
     × weighed_lost false hollow ≡ 100000000000000
     × weighed_total false hollow ≡ 400000000000000
-unfolding fed heard with_report completed with_running bytes_of lost_bytes_of lost_packets_of latest aged exact_sum all_totals
+unfolding fed heard with_report completed with_running aged exact_sum
 zero_bytes = (refl, refl, refl, refl)
 
 -- ---- full frames (Q-10)
@@ -132,7 +133,7 @@ full_window :
     × weighed_lost true full ≡ 1032999896700000000000000
     × weighed_total true full ≡ 4185999581400000000000000
     × map (λ use_bytes. 4186 * weighed_lost use_bytes full) (true ∷ false ∷ []) ≡ map (λ use_bytes. 1033 * weighed_total use_bytes full) (true ∷ false ∷ [])
-unfolding fed heard with_report completed with_running bytes_of lost_bytes_of lost_packets_of latest aged exact_sum all_totals
+unfolding fed heard with_report completed with_running aged exact_sum
 full_window = (refl, refl, refl, refl, refl)
 
 -- 100,000 frames, which leave room for 100,000 bytes: the next frame gets 10, and one of 10,000,000 bytes 17
@@ -142,21 +143,21 @@ filled = after (replicate 24 (frames 0 4096 0) ++ (frames 0 1696 0 ∷ []))
 next_frame : filled.running ≡ sums 999999900000 0 100000 0
     × map (λ size. refusal_of filled (frame size)) (100000 ∷ 100001 ∷ 9999999 ∷ 10000000 ∷ []) ≡ 0 ∷ 10 ∷ 10 ∷ 17 ∷ []
     × map (λ size. refusal_of full (frame size)) (9999999 ∷ 10000000 ∷ []) ≡ 0 ∷ 17 ∷ []
-unfolding fed heard with_report completed with_running bytes_of lost_bytes_of lost_packets_of latest refusal_of report_refusal packets_refusal columns_refusal
-    packets packet_refusal rate_refusal sign_bit lt of_bits to_bits
+unfolding fed heard with_report completed with_running check_call check_report check_columns
+    packets check_packet check_rate sign_bit lt of_bits to_bits
 next_frame = (refl, refl, refl)
 
 -- 10^9 - 1 running packets, of no bytes: one more is taken, and two get 10, whatever the profile (Q-7)
 last_packet :
-    map (refusal_of (record { observations = []; running = sums 0 0 999999999 9; time = none; on = false; count = 0 }))
+    map (refusal_of (record { observations = []; running = sums 0 0 999999999 9; time = None; on = false; count = 0 }))
     (report (0 ∷ []) (0 ∷ []) (0 ∷ []) 0 ∷ report (0 ∷ 0 ∷ []) (0 ∷ 0 ∷ []) (0 ∷ 0 ∷ []) 0 ∷ []) ≡
     0 ∷ 10 ∷ []
-unfolding bytes_of latest refusal_of report_refusal packets_refusal columns_refusal packets packet_refusal rate_refusal sign_bit lt of_bits to_bits
+unfolding check_call check_report check_columns packets check_packet check_rate sign_bit lt of_bits to_bits
 last_packet = refl
 
 -- ---- the number of a refused logarithm
 
-zero_argument : (logarithm (bits 0)).refusal ≡ outside_domain
+zero_argument : number (logarithm (bits 0)) ≡ outside_domain
 unfolding logarithm le of_bits
 zero_argument = refl
 
@@ -167,17 +168,16 @@ finite_hands :
     map (λ n. hands_finite (estimate n))
     (0x430C6BF526340000 ∷ 0x7FEFFFFFFFFFFFFF ∷ 0x7FF0000000000000 ∷ 0xFFF0000000000000 ∷ 0x7FF8000000000001 ∷ []) ≡
     true ∷ true ∷ false ∷ false ∷ false ∷ []
-    × all hands_finite
-    (acknowledged 0x7FF0000000000000 ∷ capacity (some 0x7FF0000000000000) ∷ alr none ∷ read
+    × list_all hands_finite
+    (acknowledged 0x7FF0000000000000 ∷ capacity (Some 0x7FF0000000000000) ∷ alr None ∷ read
     ∷ report (0 ∷ []) (0 ∷ []) (0 ∷ []) 0x7FF0000000000000 ∷ []) ≡
     true
-unfolding all of_bits
+unfolding of_bits
 finite_hands = (refl, refl)
 
 -- reports, refused ones among them, and not a read
 reports_alone :
-    map (all is_report) ((report [] [] [] 0 ∷ report (0 ∷ []) [] [] 0 ∷ []) ∷ (report [] [] [] 0 ∷ read ∷ []) ∷ [] ∷ []) ≡ true ∷ false ∷ true ∷ []
-unfolding all
+    map (list_all is_report) ((report [] [] [] 0 ∷ report (0 ∷ []) [] [] 0 ∷ []) ∷ (report [] [] [] 0 ∷ read ∷ []) ∷ [] ∷ []) ≡ true ∷ false ∷ true ∷ []
 reports_alone = refl
 
 -- the limit is the one that code 2 has

@@ -1,16 +1,11 @@
 -- What a history keeps that no report beyond code 10 is told to: at most fifteen observations and no more than the count, none with a total above 10^12
 -- or with more lost than sent, by either measure. Its window is one that `rounding` bounds. Assumes nothing.
-use Prim.Native.Nat.{ℕ, suc, ◌+◌, ◌^◌, ◌≤◌}
-use mathlib.Core.Path.{◌≡◌, refl, ap}
-use mathlib.Core.Bool.{Bool, true, false}
-use mathlib.Core.List.{List, [], ◌∷◌}
-use mathlib.Core.Option as Option
-use native.Mathlib.Nat.{zero-add, min-le_left, min-le_right}
-use native.Mathlib.Omega.{arith}
-use lib.ListN.{length, length-map, length-take}
+use Rattle.std.proofs.Common.{ℕ, suc, ◌+◌, ◌^◌, ◌≤◌, ◌≡◌, refl, ap, Bool, true, false, List, [], ◌∷◌, zero-add, arith, length, length-take}
+use native.Mathlib.Nat.{min-le_left, min-le_right}
+use lib.ListN.{length-map}
 use Rattle.float.proofs.Each.{Each, none, more, each_take, each_map}
 use Rattle.rounding.specs.Exact.{Sound}
-use Rattle.history.specs.History.{Sums, History, nothing, completed, with_running}
+use Rattle.history.specs.History.{Sums, History, nothing, fresh, completed, with_running}
 use Rattle.history.specs.WeighedPairs.{Pair, pair_of, pairs, aged, window}
 
 -- no more lost than sent
@@ -44,7 +39,7 @@ nothing_lost : Part nothing
 nothing_lost = part_by (omega arith) (omega arith)
 
 -- no observations
-pub emptied_kept : (on : Bool) (count : ℕ) → Kept (record { observations = []; running = nothing; time = Option.none; on = on; count = count })
+pub emptied_kept : (on : Bool) (count : ℕ) → Kept (record fresh { on = on; count = count })
 emptied_kept on count = record { few = omega arith; counted = omega arith; sound = none; part = nothing_lost }
 
 -- one more

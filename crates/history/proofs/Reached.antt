@@ -1,35 +1,32 @@
 -- What every list of calls leaves: a controller tied to the history, each part of it with what the steps that might refuse rely on. With it the steps
 -- after a complete observation are not refused. Assumes nothing.
-use Prim.Native.Nat.{ℕ, ◌*◌, ◌^◌, ◌≤◌}
-use mathlib.Core.Path.{◌≡◌, refl, ap}
-use mathlib.Core.Bool.{Bool, true, false, cond}
-use mathlib.Core.Option.{Option, none, some}
-use native.Mathlib.Omega.{arith}
-use lib.Dec.{T}
-use lib.Ieee.{Float, nan, inf, fin, binary64}
+use Rattle.std.proofs.Common.{◌≡◌, ℕ, ◌*◌, ◌^◌, ◌≤◌, Bool, true, false, cond, map, Option, Some, None, IfSome, option_map, Result, Ok, Err, IfOk, T, Float, refl, rules}
+use lib.Ieee.{nan, inf, fin, binary64}
 use lib.Ieee.Bits.{of_bits-fits}
 use lib.Ieee.Fits.{inf-fits}
 use lib.Ieee.Scale.{finite}
+use Rattle.refusal.specs.declared.Refusal.{Refusal}
+use Rattle.refusal.specs.declared.Refusal.TheVariants.{Rate as RateRefused}
+use Rattle.refusal.proofs.Gives.{Gives}
 use Rattle.float.specs.Rounded.{bits}
 use Rattle.float.specs.Rust.{sign_bit}
-use Rattle.float.specs.declared.FloatAnswer.{FloatAnswer}
+use Rattle.float.proofs.Each.{Each}
 use Rattle.float.proofs.Extremes.{minimum_by}
 use Rattle.float.proofs.NotNegative.{Holds, inf_not_negative}
-use Rattle.float.proofs.Refusal.{either, checked as checked_by}
+use Rattle.float.proofs.Refusal.{either}
 use Rattle.bandwidth.specs.Rate as Rate
 use Rattle.bandwidth.specs.declared.Bitrate.{Bitrate}
-use Rattle.bandwidth.specs.declared.OptionBitrate.{OptionBitrate}
 use Rattle.bandwidth.proofs.NotNegativeRate.{HoldsRate, NotNegativeRate}
 use Rattle.bandwidth.proofs.Limited.{LimitedRate}
-use Rattle.bandwidth.specs.declared.OptionBitrate.TheVariants.{Some, None}
+use Rattle.likelihood.proofs.Judged.{SentRow}
 use Rattle.time.specs.Time as Time
 use Rattle.packets.specs.declared.PacketResultsSummary.{PacketResultsSummary}
 use Rattle.observation.specs.Ratio as Ratio
 use Rattle.observation.specs.Rows as Rows
 use Rattle.observation.specs.Window as Window
+use Rattle.observation.specs.declared.Added.{Added}
 use Rattle.observation.specs.declared.Observations.{Observations}
-use Rattle.observation.specs.declared.AddedAnswer.{AddedAnswer}
-use Rattle.observation.proofs.Added.{added_by}
+use Rattle.observation.proofs.AfterReport.{added_by}
 use Rattle.observation.proofs.NotNegativeLimit.{limit_not_negative}
 use Rattle.observation.proofs.Sent.{AllSent, cleared_sent, added_sent, rows_sent}
 use Rattle.candidates.specs.Bound as Bound
@@ -42,11 +39,10 @@ use Rattle.loss_controller.specs.Setters as Setters
 use Rattle.loss_controller.specs.Report as Report
 use Rattle.loss_controller.specs.declared.Inputs.{Inputs}
 use Rattle.loss_controller.specs.declared.LossController.{LossController}
-use Rattle.loss_controller.specs.Setters.{rate_of}
+use Rattle.loss_controller.specs.Setters.{rate_of, check_rate, check_capacity}
 use Rattle.history.specs.History.{History, fresh}
-use Rattle.history.specs.Run.{capacity_of}
 use Rattle.history.proofs.Tied.{Tied, fresh_tied}
-use Rattle.history.proofs.Weighed.{tied_reported, tied_readable}
+use Rattle.history.proofs.Weighed.{Windowed, ratio_of, ceiling_of, readable, ratio_taken}
 
 -- ---- the rates that calls hand over
 
@@ -55,32 +51,28 @@ pub record TakenRate (r : Bitrate) : Type 0 where
   pub holds : HoldsRate r
   pub limited : T (finite r.bps) → LimitedRate r
 
-abbrev pub TakenOption : OptionBitrate → Type 0
-TakenOption (Some r) = TakenRate r
-TakenOption None = Unit {0}
-
 infinite_taken : TakenRate (Rate.rate (inf false))
 infinite_taken = record { holds = inf-fits binary64 false; limited = λ f. absurd f }
 
-not_two : (b : Bool) → ◌≡◌ {A = ℕ} (cond b 2 0) 0 → b ≡ false
-not_two true e = absurd (omega arith)
-not_two false e = refl
+not_refused_by : (b : Bool) → ◌≡◌ {A = Result (Unit {0}) Refusal} (cond b (Err RateRefused) (Ok tt)) (Ok tt) → b ≡ false
+not_refused_by true e = search rules
+not_refused_by false e = refl
 
 -- what code 2 takes
-by_code_2 : (x : Float) → Holds x → Setters.rate_refusal (Rate.rate x) ≡ 0 → TakenRate (Rate.rate x)
-unfolding Setters.rate_refusal sign_bit
+by_code_2 : (x : Float) → Holds x → check_rate (Rate.rate x) ≡ Ok tt → TakenRate (Rate.rate x)
+unfolding check_rate sign_bit
 by_code_2 nan h e = record { holds = h; limited = λ f. absurd f }
 by_code_2 (inf s) h e = record { holds = h; limited = λ f. absurd f }
-by_code_2 (fin false m e) h r = record { holds = h; limited = λ f. record { forward = record { holds = h; above = tt }; within = not_two _ r } }
-by_code_2 (fin true m e) h r = absurd (omega arith)
+by_code_2 (fin false m e) h r = record { holds = h; limited = λ f. record { forward = record { holds = h; above = tt }; within = not_refused_by _ r } }
+by_code_2 (fin true m e) h r = search rules
 
-pub rate_taken : (n : ℕ) → Setters.rate_refusal (rate_of n) ≡ 0 → TakenRate (rate_of n)
+pub rate_taken : (n : ℕ) → check_rate (rate_of n) ≡ Ok tt → TakenRate (rate_of n)
 rate_taken n e = by_code_2 (bits n) (of_bits-fits binary64 n) e
 
-pub capacity_taken : (n : Option ℕ) → Setters.capacity_refusal (capacity_of n) ≡ 0 → TakenOption (capacity_of n)
-unfolding Setters.capacity_refusal
-capacity_taken none e = tt
-capacity_taken (some n) e = rate_taken n e
+pub capacity_taken : (n : Option ℕ) → check_capacity (option_map rate_of n) ≡ Ok tt → IfSome (option_map rate_of n) TakenRate
+unfolding check_capacity
+capacity_taken None e = tt
+capacity_taken (Some n) e = rate_taken n e
 
 -- ---- what is kept
 
@@ -99,7 +91,7 @@ pub record SoundEstimator (e : Estimator) : Type 0 where
 pub record SoundInputs (i : Inputs) : Type 0 where
   pub delay : TakenRate i.delay_based_estimate
   pub acknowledged : TakenRate i.acknowledged_bitrate
-  pub capacity : TakenOption i.link_capacity_estimate
+  pub capacity : IfSome i.link_capacity_estimate TakenRate
 
 -- the observations are tied to the history, ALR is on in both or off in both, and each part is sound
 pub record Reached (c : LossController) (h : History) : Type 0 where
@@ -114,18 +106,18 @@ pub cleared_sound : (use_bytes : Bool) (count : ℕ) → SoundObservations (Wind
 unfolding Window.cleared
 cleared_sound use_bytes count = record { sent = cleared_sent use_bytes count; timely = tt }
 
-abbrev TimelyAnswer : AddedAnswer → Type 0
-TimelyAnswer a = Timely a.observations.last_send_time_most_recent_observation
-
 -- and what a report leaves is
 pub added_sound : (o : Observations) (s : PacketResultsSummary) → SoundObservations o → s.last_send_time ≤ 4 * 10 ^ 18
-    → SoundObservations (Window.added o s).observations
+    → IfOk (Window.added o s) (λ (a : Added). SoundObservations a.observations)
 unfolding Window.with_ceiling Window.stored Window.with_partial Window.reference
-added_sound o s k early = record {
-  sent = added_sent o s k.sent;
-  timely = added_by o s TimelyAnswer (λ n. k.timely) (λ r n. k.timely) (λ u c n. early)
-      (λ u c. either Timely (Time.is_exact o.last_send_time_most_recent_observation) _ _ k.timely early);
-}
+added_sound o s k early = both (Window.added o s) (added_sent o s k.sent)
+    (added_by o s (λ r. IfOk r (λ (a : Added). Timely a.observations.last_send_time_most_recent_observation)) (λ n. k.timely) (λ e. tt)
+    (λ q new ceiling u c n r. early) (λ q u c. either Timely (Time.is_exact o.last_send_time_most_recent_observation) _ _ k.timely early))
+  where
+    both : (r : Result Added Refusal) → IfOk r (λ (a : Added). AllSent a.observations)
+        → IfOk r (λ (a : Added). Timely a.observations.last_send_time_most_recent_observation) → IfOk r (λ (a : Added). SoundObservations a.observations)
+    both (Ok a) sent timely = record { sent = sent; timely = timely }
+    both (Err e) sent timely = tt
 
 pub initial_reached : (use_bytes : Bool) → Reached (initial use_bytes) fresh
 initial_reached use_bytes = record {
@@ -143,21 +135,24 @@ infinite_holds = inf-fits binary64 false
 
 -- whatever ceiling is cached
 pub ceiling_not_negative : (o : Observations) (h : History) → Tied o h → NotNegativeRate (Ratio.cached o.cached_instant_upper_bound)
-unfolding Ratio.valid_or_max Ratio.instant_upper_bound
+unfolding Ratio.valid_or_max
 ceiling_not_negative o h t =
-    let limit = (Ratio.instant_upper_bound o).rate in
-    rw t.ceiling
-    (either NotNegativeRate (finite limit.bps) limit _ (rw (tied_reported o h t) (limit_not_negative _)) inf_not_negative)
+    rw t.ceiling (either NotNegativeRate (finite (ceiling_of o).bps) (ceiling_of o) _ (limit_not_negative _) inf_not_negative)
 
-capacity_holds : (on : Bool) (link : OptionBitrate) → TakenOption link → Holds (Bound.capacity on link).bps
+capacity_holds : (on : Bool) (link : Option Bitrate) → IfSome link TakenRate → Holds (Bound.capacity on link).bps
 unfolding Bound.capacity Bound.at_most Rate.smaller
 capacity_holds true (Some r) t = either HoldsRate (finite r.bps) _ _ (minimum_by Holds (inf false) r.bps (λ h. infinite_holds) t.holds) infinite_holds
 capacity_holds true None t = infinite_holds
 capacity_holds false link t = infinite_holds
 
-rows_taken : (o : Observations) (h : History) → Tied o h → (Rows.rows o).refusal ≡ 0
+rows_taken : (o : Observations) (h : History) → Windowed o h → AllSent o → Gives (Rows.rows o) (Each SentRow)
 unfolding Rows.rows
-rows_taken o h t = rw (tied_readable o h t)
+rows_taken o h w sent =
+    record {
+      value = map (Rows.row_of o.use_byte_loss_ratio o.num_observations) o.observations;
+      is = rw (readable o h w);
+      holds = rw (readable o h w) at (rows_sent o sent);
+    }
 
 pub updated_taken : (c : LossController) (h : History) → Reached c h → T (Report.has_valid_estimate c) → Taken (Report.updated_estimator c)
 unfolding Report.has_valid_estimate Report.updated_estimator Report.bounds Report.report
@@ -165,17 +160,11 @@ updated_taken c h r f =
     let o = c.observations in
     let e = c.estimator in
     let b = Report.bounds c in
-    let ratio = Ratio.average_reported_loss_ratio o in
+    let w = r.tied.windowed in
     let i = r.inputs in
     let k = r.estimator in
+    let rows = rows_taken o h w r.observations.sent in
     let capacity = capacity_holds (Setters.is_in_alr c) c.inputs.link_capacity_estimate i.capacity in
     let fit = bound_holds b capacity k.rates.limit.holds (ceiling_not_negative o h r.tied).holds i.delay.holds in
-    let rows = rows_sent o r.observations.sent in
-    let choice = chosen o.use_byte_loss_ratio e.current_estimate b (Rows.rows o).rows ratio.value (k.rates.current f) i.delay.limited
-    i.acknowledged.limited fit rows in
-    checked_by Taken (Rows.rows o).refusal
-    (λ z. checked_by Taken ratio.refusal
-    (λ z. checked_by Taken _ (λ z. not_refused e _ (Report.report c ratio.value) k.steady k.rates f choice.1 r.observations.timely)
-    (λ n. absurd (n choice.0)))
-    (λ n. absurd (n (ap (λ (a : FloatAnswer). a.refusal) (tied_reported o h r.tied)))))
-    (λ n. absurd (n (rows_taken o h r.tied)))
+    let choice = chosen o.use_byte_loss_ratio e.current_estimate b rows.value (ratio_of o) (k.rates.current f) i.delay.limited i.acknowledged.limited fit rows.holds in
+    rw (rows.is, ratio_taken o h w, choice.1) (not_refused e choice.0 (Report.report c (ratio_of o)) k.steady k.rates f choice.2 r.observations.timely)

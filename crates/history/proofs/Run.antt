@@ -1,6 +1,5 @@
 -- Induction over a run: for any property of a controller and a history. Assumes nothing.
-use mathlib.Core.Bool.{Bool}
-use mathlib.Core.List.{List, [], ◌∷◌, foldl}
+use Rattle.std.proofs.Common.{Bool, List, [], ◌∷◌, fold}
 use Rattle.loss_controller.specs.Controller.{initial}
 use Rattle.loss_controller.specs.declared.LossController.{LossController}
 use Rattle.history.specs.Calls.{Call}
@@ -10,7 +9,7 @@ use Rattle.history.specs.Run.{next, told_of, left_of, all_told, left, told}
 -- what the fresh controller and the fresh history have, and every call keeps, holds after every list
 module _ (P : LossController → History → Type 0) (kept : (c : LossController) (h : History) (call : Call) → P c h
     → P (next c call) (fed h (told_of c call))) where
-  along : (calls : List Call) (c : LossController) (h : History) → P c h → P (left_of c calls) (foldl fed h (all_told c calls))
+  along : (calls : List Call) (c : LossController) (h : History) → P c h → P (left_of c calls) (fold fed h (all_told c calls))
   unfolding all_told
   along [] c h p = p
   along (call ∷ calls) c h p = along calls (next c call) (fed h (told_of c call)) (kept c h call p)

@@ -1,12 +1,7 @@
 -- The claims, as tests, on short lists, under both profiles: those that the must-fail edits of this crate name, where the conditions are met and each
 -- edit makes its test false on its list (tools/refute.py), one in which all bytes are lost, some of full frames (Q-10), and some on which the profiles
 -- differ (Q-7). No proof cites it. Assumes nothing.
-use Prim.Native.Nat.{ℕ, zero, suc, ◌+◌}
-use mathlib.Core.Path.{◌≡◌, refl}
-use mathlib.Core.Bool.{true, false}
-use mathlib.Core.List.{List, [], ◌∷◌, ◌++◌, map}
-use mathlib.Core.Option.{none, some}
-use lib.ListN.{replicate}
+use Rattle.std.proofs.Common.{◌≡◌, ℕ, zero, suc, ◌+◌, true, false, List, [], ◌∷◌, ◌++◌, map, replicate, Some, None, refl}
 use lib.Ieee.{of_bits}
 use Rattle.float.specs.Rounded.{bits}
 use Rattle.history.specs.Calls.{Call, estimate, alr, report, read}
@@ -66,7 +61,7 @@ refused_first = refl
 
 -- one observation without loss, ALR on, one with all bytes lost; on again changes nothing
 alr_between :
-    outcome (packet 0 0 ∷ packet 300000000 0 ∷ alr (some 5) ∷ packet 0 1 ∷ packet 300000000 1 ∷ alr (some 6) ∷ high ∷ []) ≡
+    outcome (packet 0 0 ∷ packet 300000000 0 ∷ alr (Some 5) ∷ packet 0 1 ∷ packet 300000000 1 ∷ alr (Some 6) ∷ high ∷ []) ≡
     record { met = true; count = 2; lossy = true ∷ true ∷ [] }
 unfolding outcome packet high
 alr_between = refl
@@ -114,7 +109,7 @@ unfolding outcome packet unequal high
 unequal_sizes = refl
 
 -- an ALR change keeps the profile
-unequal_in_alr : outcome (alr (some 5) ∷ unequal ++ (high ∷ [])) ≡ record { met = true; count = 1; lossy = true ∷ true ∷ [] }
+unequal_in_alr : outcome (alr (Some 5) ∷ unequal ++ (high ∷ [])) ≡ record { met = true; count = 1; lossy = true ∷ true ∷ [] }
 unfolding outcome packet unequal high
 unequal_in_alr = refl
 
@@ -141,7 +136,7 @@ unfolding untraced packet
 refused_delay = refl
 
 -- one observation with all bytes lost and its ceiling; ALR on from a time above 4 × 10^18 ns, then off: it was off
-refused_start : untraced (packet 0 1 ∷ packet 300000000 1 ∷ high ∷ alr (some 4000000000000000001) ∷ alr none ∷ []) ≡ true
+refused_start : untraced (packet 0 1 ∷ packet 300000000 1 ∷ high ∷ alr (Some 4000000000000000001) ∷ alr None ∷ []) ≡ true
 unfolding untraced packet high
 refused_start = refl
 

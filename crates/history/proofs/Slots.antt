@@ -1,20 +1,13 @@
 -- The fifteen slots that a history's observations make: how a new one turns them, and that what the loss ratio reads of them is the history's window in
 -- another order. Assumes nothing.
-use Prim.Native.Nat.{ℕ, zero, suc, ◌+◌, ◌-◌, ◌%◌, ◌^◌, ◌≤◌, ◌<◌}
-use mathlib.Core.Path.{◌≡◌, refl, sym, ap, ◌∙◌}
-use mathlib.Core.Logic.{inl, inr}
-use mathlib.Core.Bool.{Bool, true, false, cond}
-use mathlib.Core.List.{List, [], ◌∷◌, ◌++◌, map, reverse, reverse_aux, filter_map, append-nil, reverse-cons, reverse-append}
+use Rattle.std.proofs.Common.{ℕ, zero, suc, ◌+◌, ◌-◌, ◌%◌, ◌^◌, ◌≤◌, ◌<◌, ◌≡◌, refl, sym, ap, ◌∙◌, inl, inr, Bool, true, false, cond, List, [], ◌∷◌, ◌++◌, map, reverse, append-nil, zero-add, add-zero, eq-or-lt_of_le, arith, lt-ltb, le-leb, pos, length, take, drop, set, replicate, take-append-drop, length-take-le, take_at, drop_at}
+use mathlib.Core.List.{filter_map, reverse_aux, reverse-cons, reverse-append}
 use mathlib.Core.List.Permᴰ
 use mathlib.Core.List.{Permᴰ}
 use mathlib.Core.Option.{Option, none, some, Option-elim}
-use native.Mathlib.Nat.{zero-add, add-zero, eq-or-lt_of_le}
-use native.Mathlib.Omega.{arith}
-use borrow.Author.Tests.{lt-ltb, le-leb}
-use lib.IntN.{pos}
 use lib.Ieee.{binary64, in_float}
-use lib.ListN.{length, take, drop, set, replicate, length-reverse, length-replicate, take-append-drop, replicate-append-replicate}
-use lib.Seq.{take-length, drop-length, take-append-le, drop-append-le, length-take-le, take_at, drop_at, set_at, append_snoc}
+use lib.ListN.{length-reverse, length-replicate, replicate-append-replicate}
+use lib.Seq.{take-length, drop-length, take-append-le, drop-append-le, set_at, append_snoc}
 use Rattle.float.proofs.Each.{Each, more}
 use Rattle.rounding.specs.Exact.{Measured, Sound}
 use Rattle.observation.specs.Ratio as Ratio
@@ -117,12 +110,6 @@ module _ {A : Type 0} where
       ∙ turned_set (by_age 14 n l) last.0 (some (n, a)) (n % 15) r
       ∙ turned_next n (some (n, a) ∷ by_age 14 n l) (ap suc (by_age_length 14 n l))
       ∙ ap (turned ((n + 1) % 15)) (sym (by_age_new 14 n a l))
-
--- to set an element and then map is to map and then set
-pub map_set : {A B : Type 0} (f : A → B) (l : List A) (i : ℕ) (a : A) → map f (set l i a) ≡ set (map f l) i (f a)
-map_set f [] i a = refl
-map_set f (x ∷ l) zero a = refl
-map_set f (x ∷ l) (suc i) a = rw (map_set f l i a)
 
 -- ---- what the loss ratio reads
 

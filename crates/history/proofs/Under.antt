@@ -1,7 +1,6 @@
 -- The smaller of a rate and a ceiling: finite with its sign clear, and under the ceiling where it is set. Assumes nothing.
-use Prim.Native.Nat.{ℕ, ◌*◌, ◌≤◌}
-use lib.Dec.{T}
-use lib.Ieee.{Float, fin, is_nan, lt}
+use Rattle.std.proofs.Common.{ℕ, ◌*◌, ◌≤◌, T, Float}
+use lib.Ieee.{fin, is_nan, lt}
 use Rattle.float.specs.Rust.{minimum}
 use Rattle.float.proofs.Refusal.{tested}
 use Rattle.rounding.specs.Plain.{plain}

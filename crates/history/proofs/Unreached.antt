@@ -1,92 +1,92 @@
 -- No list of calls comes to a loss ratio above 1, or to a call that is refused with 6. Assumes nothing.
-use Prim.Native.Nat.{ℕ}
-use mathlib.Core.Path.{◌≡◌, refl, sym, ◌∙◌}
-use mathlib.Core.Bool.{Bool, false, cond, ◌&&◌, ◌||◌}
-use mathlib.Core.List.{List, [], ◌∷◌}
-use mathlib.Core.Option.{none, some}
+use Rattle.std.proofs.Common.{◌≡◌, ℕ, Bool, false, cond, ◌&&◌, ◌||◌, List, [], ◌∷◌, length, sum, Some, None, Result, Ok, Err, eqb, leb, refl, sym, ◌∙◌}
 use borrow.Author.Tests.{eqb-false}
-use lib.Dec.{eqb, leb}
-use lib.ListN.{length}
 use lib.Ieee.{lt}
 use lib.Ieee.Scale.{finite}
-use Rattle.float.specs.Answer.{first_refusal}
+use Rattle.refusal.specs.Outcome.{and_then, number}
+use Rattle.refusal.specs.declared.Refusal.{Refusal}
+use Rattle.refusal.specs.declared.Refusal.TheVariants.{Rate, Time, UnequalColumns, TooManyPackets, Flag, RunningSums, Observations, PacketSize}
 use Rattle.float.specs.Rust.{sign_bit}
 use Rattle.float.proofs.Refusal.{either}
 use Rattle.bandwidth.specs.Rate.{most_rate}
 use Rattle.bandwidth.specs.declared.Bitrate.{Bitrate}
-use Rattle.packets.specs.Summary.{most_packets, latest_time, largest_packet, columns_refusal, packets, packet_refusal}
+use Rattle.packets.specs.Summary.{most_packets, latest_time, largest_packet, check_columns, packets, check_packet}
 use Rattle.packets.specs.declared.PacketResult.{PacketResult}
 use Rattle.loss_controller.specs.Result.{average_reported_loss_ratio}
-use Rattle.loss_controller.specs.Setters.{rate_of, rate_refusal, capacity_refusal, time_refusal, start_refusal}
+use Rattle.loss_controller.specs.Setters.{rate_of, check_rate, check_capacity, check_time, check_start}
 use Rattle.history.specs.Calls.{Call, estimate, acknowledged, alr, capacity, report, read}
-use Rattle.history.specs.History.{History, bytes_of, latest}
-use Rattle.history.specs.Refusals.{packets_refusal, passes, fills, state_refusal, report_refusal, refusal_of}
+use Rattle.history.specs.History.{History, latest}
+use Rattle.history.specs.Refusals.{check_packets, passes, fills, check_state, check_report, check_call}
 use Rattle.history.specs.Unreached.{RatioAtMostOne, outside_domain, Never6}
-use Rattle.history.proofs.Weighed.{tied_reported, tied_at_most_one}
+use Rattle.history.proofs.Weighed.{ratio_taken, ratio_bounded}
 use Rattle.history.proofs.Refusals.{refusals}
 use Rattle.history.proofs.Step.{reached}
 
 pub every_ratio_at_most_one : RatioAtMostOne
 unfolding average_reported_loss_ratio
 every_ratio_at_most_one use_bytes calls =
-    let t = (reached use_bytes calls).tied in
-    rw (tied_reported _ _ t) (record { taken = refl; at_most_one = tied_at_most_one _ _ t })
+    let w = (reached use_bytes calls).tied.windowed in
+    rw (ratio_taken _ _ w) (ratio_bounded _ _ w)
 
 -- ---- of document 01's numbers for a call, none is 6
 
-abbrev NotSix : ℕ → Type 0
-NotSix n = n ≡ outside_domain → ⊥
+abbrev NotSix : Result (Unit {0}) Refusal → Type 0
+NotSix check = number check ≡ outside_domain → ⊥
 
-literal : (n : ℕ) → eqb n outside_domain ≡ false → NotSix n
-literal n e = eqb-false n outside_domain e
+literal : (check : Result (Unit {0}) Refusal) → eqb (number check) outside_domain ≡ false → NotSix check
+literal check e = eqb-false (number check) outside_domain e
 
--- one of two numbers, and of two refusals
-one_of : (b : Bool) (m n : ℕ) → eqb m outside_domain ≡ false → eqb n outside_domain ≡ false → NotSix (cond b m n)
-one_of b m n e f = either NotSix b m n (literal m e) (literal n f)
+-- one of two, and two, one after the other
+one_of : (b : Bool) (r s : Result (Unit {0}) Refusal) → eqb (number r) outside_domain ≡ false → eqb (number s) outside_domain ≡ false → NotSix (cond b r s)
+one_of b r s e f = either NotSix b r s (literal r e) (literal s f)
 
-first_of : (a b : ℕ) → NotSix a → NotSix b → NotSix (first_refusal a b)
-first_of a b p q = either NotSix (eqb a 0) b a q p
+both_of : (r s : Result (Unit {0}) Refusal) → NotSix r → NotSix s → NotSix (and_then r (λ _. s))
+both_of (Ok u) s p q = q
+both_of (Err e) s p q = p
 
-rate_not_six : (r : Bitrate) → NotSix (rate_refusal r)
-unfolding rate_refusal
-rate_not_six r = one_of (finite r.bps && (sign_bit r.bps || lt most_rate.bps r.bps)) 2 0 refl refl
+rate_not_six : (r : Bitrate) → NotSix (check_rate r)
+unfolding check_rate
+rate_not_six r = one_of (finite r.bps && (sign_bit r.bps || lt most_rate.bps r.bps)) (Err Rate) (Ok tt) refl refl
 
-time_not_six : (time : ℕ) → NotSix (time_refusal time)
-unfolding time_refusal
-time_not_six time = one_of (leb time latest_time) 0 3 refl refl
+time_not_six : (time : ℕ) → NotSix (check_time time)
+unfolding check_time
+time_not_six time = one_of (leb time latest_time) (Ok tt) (Err Time) refl refl
 
-columns_not_six : (times sizes flags : List ℕ) → NotSix (columns_refusal times sizes flags)
-unfolding columns_refusal
+columns_not_six : (times sizes flags : List ℕ) → NotSix (check_columns times sizes flags)
+unfolding check_columns
 columns_not_six times sizes flags =
-    let even = eqb (length sizes) (length times) && eqb (length flags) (length times) in
-    either NotSix even _ 4 (one_of (leb (length times) most_packets) 0 5 refl refl) (literal 4 refl)
+    either NotSix (eqb (length sizes) (length times) && eqb (length flags) (length times)) _ (Err UnequalColumns)
+    (one_of (leb (length times) most_packets) (Ok tt) (Err TooManyPackets) refl refl) (literal (Err UnequalColumns) refl)
 
-packets_not_six : (ps : List PacketResult) → NotSix (packets_refusal ps)
-unfolding packets_refusal packet_refusal
-packets_not_six [] = literal 0 refl
-packets_not_six (p ∷ ps) =
-    first_of (packet_refusal p) (packets_refusal ps)
-    (either NotSix (leb p.local_send_time latest_time) _ 3
-    (either NotSix (leb p.size largest_packet) _ 17 (one_of (leb p.lost 1) 0 8 refl refl) (literal 17 refl)) (literal 3 refl))
-    (packets_not_six ps)
+packet_not_six : (p : PacketResult) → NotSix (check_packet p)
+unfolding check_packet
+packet_not_six p =
+    either NotSix (leb p.local_send_time latest_time) _ (Err Time)
+    (either NotSix (leb p.size largest_packet) _ (Err PacketSize) (one_of (leb p.lost 1) (Ok tt) (Err Flag) refl refl) (literal (Err PacketSize) refl))
+    (literal (Err Time) refl)
 
-state_not_six : (h : History) (count bytes sent : ℕ) → NotSix (state_refusal h count bytes sent)
-state_not_six h count bytes sent = either NotSix (passes h count bytes) 10 _ (literal 10 refl) (one_of (fills h sent) 11 0 refl refl)
+packets_not_six : (ps : List PacketResult) → NotSix (check_packets ps)
+packets_not_six [] = literal (Ok tt) refl
+packets_not_six (p ∷ ps) = both_of (check_packet p) (check_packets ps) (packet_not_six p) (packets_not_six ps)
 
-call_not_six : (h : History) (call : Call) → NotSix (refusal_of h call)
-unfolding refusal_of report_refusal capacity_refusal start_refusal
+state_not_six : (h : History) (count bytes sent : ℕ) → NotSix (check_state h count bytes sent)
+state_not_six h count bytes sent =
+    either NotSix (passes h count bytes) (Err RunningSums) _ (literal (Err RunningSums) refl) (one_of (fills h sent) (Err Observations) (Ok tt) refl refl)
+
+call_not_six : (h : History) (call : Call) → NotSix (check_call h call)
+unfolding check_call check_report check_capacity check_start
 call_not_six h (estimate rate) = rate_not_six (rate_of rate)
 call_not_six h (acknowledged rate) = rate_not_six (rate_of rate)
-call_not_six h (alr none) = literal 0 refl
-call_not_six h (alr (some start)) = time_not_six start
-call_not_six h (capacity none) = literal 0 refl
-call_not_six h (capacity (some rate)) = rate_not_six (rate_of rate)
+call_not_six h (alr None) = literal (Ok tt) refl
+call_not_six h (alr (Some start)) = time_not_six start
+call_not_six h (capacity None) = literal (Ok tt) refl
+call_not_six h (capacity (Some rate)) = rate_not_six (rate_of rate)
 call_not_six h (report times sizes flags delay) =
-    first_of (columns_refusal times sizes flags) _ (columns_not_six times sizes flags)
-    (first_of (rate_refusal (rate_of delay)) _ (rate_not_six (rate_of delay))
-    (first_of (packets_refusal (packets times sizes flags)) _ (packets_not_six (packets times sizes flags))
-    (either NotSix (eqb (length times) 0) 0 _ (literal 0 refl) (state_not_six h (length times) (bytes_of sizes) (latest times)))))
-call_not_six h read = literal 0 refl
+    both_of (check_columns times sizes flags) _ (columns_not_six times sizes flags)
+    (both_of (check_rate (rate_of delay)) _ (rate_not_six (rate_of delay))
+    (both_of (check_packets (packets times sizes flags)) _ (packets_not_six (packets times sizes flags))
+    (either NotSix (eqb (length times) 0) (Ok tt) _ (literal (Ok tt) refl) (state_not_six h (length times) (sum sizes) (latest times)))))
+call_not_six h read = literal (Ok tt) refl
 
 pub never_6 : Never6
 never_6 use_bytes calls call six = call_not_six _ call (sym ((refusals use_bytes calls).each call) ∙ six)

@@ -1,18 +1,14 @@
--- What the loss ratio and the ceiling of observations are to the history that they are tied to. Assumes nothing.
-use Prim.Native.Nat.{ℕ, ◌+◌, ◌-◌, ◌*◌, ◌≤◌, ◌<◌}
-use mathlib.Core.Path.{◌≡◌, refl, ◌∙◌}
-use mathlib.Core.Logic.{inl, inr}
-use mathlib.Core.Bool.{Bool, true}
-use mathlib.Core.List.{List, [], ◌∷◌, Permᴰ}
-use native.Mathlib.Nat.{eq-zero-or-pos, mul-pos, one-le-pow}
-use native.Mathlib.Omega.{arith}
-use lib.Dec.{T, lit<}
-use lib.ListN.{length, length-map}
-use lib.Ieee.{Float, nan, inf, fin}
+-- What the loss ratio and the ceiling of observations are to the history whose window they hold. Assumes nothing.
+use Rattle.std.proofs.Common.{◌≡◌, ℕ, ◌+◌, ◌-◌, ◌*◌, ◌≤◌, ◌<◌, Bool, true, List, [], ◌∷◌, length, map, T, Ok, Float, refl, inl, inr, eq-zero-or-pos, mul-pos, lit<, arith}
+use mathlib.Core.List.{Permᴰ}
+use native.Mathlib.Nat.{one-le-pow}
+use lib.ListN.{length-map}
+use lib.Ieee.{nan, inf, fin}
 use lib.Ieee.Scale.{finite}
-use Rattle.float.specs.Answer.{answered}
+use Rattle.std.proofs.lemmas.List.Sums.{sum_by-cons}
 use Rattle.float.proofs.Each.{Each, each_perm}
 use Rattle.bandwidth.specs.Rate as Rate
+use Rattle.bandwidth.specs.declared.Bitrate.{Bitrate}
 use Rattle.rounding.specs.Exact.{Measured, Sound, exact_weight, exact_sum, exact_total, Close, AtMostOne}
 use Rattle.rounding.specs.Plain.{plain}
 use Rattle.rounding.specs.Ratio.{loss_ratio, loss_ceiling}
@@ -23,22 +19,22 @@ use Rattle.observation.specs.Ratio as Ratio
 use Rattle.observation.specs.declared.Observations.{Observations}
 use Rattle.history.specs.History.{History}
 use Rattle.history.specs.WeighedPairs.{Pair, pair_of, pairs, aged, window, weighed_lost, weighed_total, all_totals}
-use Rattle.history.proofs.Kept.{window_short, window_sound}
-use Rattle.history.proofs.Slots.{slots_window, sound_readable}
-use Rattle.history.proofs.Tied.{Tied}
+use Rattle.history.proofs.Kept.{Kept, window_short, window_sound}
+use Rattle.history.proofs.Slots.{held, slots, slots_window, sound_readable}
 
 -- what is counted weighs something, whatever its age
 aged_some : (newer : ℕ) (ps : List Pair) → 0 < all_totals ps → 0 < exact_total (aged newer ps)
-unfolding aged all_totals exact_sum
+unfolding aged exact_sum
 aged_some newer [] h = h
-aged_some newer (p ∷ ps) h = elim (eq-zero-or-pos p.total) [
-  | inl none ↦ let rest = aged_some (newer + 1) ps (omega arith) in omega arith
-  | inr some ↦ let first : 0 < exact_weight newer * p.total =
-      mul-pos (mul-pos (one-le-pow newer 9 (lit< tt)) (one-le-pow (14 - newer) 10 (lit< tt))) some in omega arith
-]
+aged_some newer (p ∷ ps) h =
+    let all : all_totals (p ∷ ps) ≡ p.total + all_totals ps = sum_by-cons (λ (p : Pair). p.total) p ps in
+    elim (eq-zero-or-pos p.total) [
+      | inl none ↦ let rest = aged_some (newer + 1) ps (omega (arith, h, all, none)) in omega arith
+      | inr some ↦ let first : 0 < exact_weight newer * p.total =
+          mul-pos (mul-pos (one-le-pow newer 9 (lit< tt)) (one-le-pow (14 - newer) 10 (lit< tt))) some in omega arith
+    ]
 
 some_pair : (ps : List Pair) → 0 < all_totals ps → 0 < length ps
-unfolding all_totals
 some_pair [] h = h
 some_pair (p ∷ ps) h = omega arith
 
@@ -47,7 +43,20 @@ plain_finite nan h = absurd h
 plain_finite (inf s) h = absurd h
 plain_finite (fin s m e) h = refl
 
-module _ (o : Observations) (h : History) (t : Tied o h) where
+-- what the loss ratio reads of the slots, and the count, are the history's
+pub record Windowed (o : Observations) (h : History) : Type 0 where
+  pub count : o.num_observations ≡ h.count
+  pub slots : map held o.observations ≡ slots h.count h.observations
+  pub kept : Kept h
+
+-- the ratio of such observations, and the ceiling that it sets
+abbrev pub ratio_of : Observations → Float
+ratio_of o = loss_ratio (Ratio.window o.use_byte_loss_ratio o.num_observations o.observations)
+
+abbrev pub ceiling_of : Observations → Bitrate
+ceiling_of o = Ratio.instant_limit (ratio_of o)
+
+module _ (o : Observations) (h : History) (w : Windowed o h) where
   abbrev use_bytes : Bool
   use_bytes = o.use_byte_loss_ratio
 
@@ -56,48 +65,45 @@ module _ (o : Observations) (h : History) (t : Tied o h) where
   read = Ratio.window use_bytes o.num_observations o.observations
 
   any_order : Permᴰ read (window use_bytes h)
-  any_order = rw t.count (slots_window use_bytes h.count h.observations o.observations t.slots t.kept.counted t.kept.few)
+  any_order = rw w.count (slots_window use_bytes h.count h.observations o.observations w.slots w.kept.counted w.kept.few)
 
   sound : Each Sound (window use_bytes h)
-  sound = window_sound use_bytes h t.kept
+  sound = window_sound use_bytes h w.kept
 
   short : length (window use_bytes h) ≤ 15
-  short = window_short use_bytes h t.kept
+  short = window_short use_bytes h w.kept
 
   -- it can be read
-  pub tied_readable : Ratio.readable use_bytes o.observations ≡ true
-  tied_readable = sound_readable use_bytes o.num_observations o.observations (each_perm any_order sound)
+  pub readable : Ratio.readable use_bytes o.observations ≡ true
+  readable = sound_readable use_bytes o.num_observations o.observations (each_perm any_order sound)
 
-  -- so the ratio is not refused
-  pub tied_reported : Ratio.average_reported_loss_ratio o ≡ answered (loss_ratio read)
+  -- so the ratio is not refused, nor is the ceiling
+  pub ratio_taken : Ratio.average_reported_loss_ratio o ≡ Ok (ratio_of o)
   unfolding Ratio.average_reported_loss_ratio
-  tied_reported = rw tied_readable
+  ratio_taken = rw readable
 
-  -- nor is the ceiling
-  pub tied_ceiling_taken : (Ratio.instant_upper_bound o).refusal ≡ 0
+  pub ceiling_taken : Ratio.instant_upper_bound o ≡ Ok (ceiling_of o)
   unfolding Ratio.instant_upper_bound
-  tied_ceiling_taken = rw tied_reported
+  ceiling_taken = rw ratio_taken
 
   -- and the ratio is 1 at most
-  pub tied_at_most_one : AtMostOne (loss_ratio read)
-  tied_at_most_one = ratio_at_most_one read (each_perm any_order sound) (rw (length_perm any_order) short)
+  pub ratio_bounded : AtMostOne (ratio_of o)
+  ratio_bounded = ratio_at_most_one read (each_perm any_order sound) (rw (length_perm any_order) short)
 
   module _ (some : 0 < all_totals (pairs use_bytes h)) where
     -- an observation is complete
-    pub tied_counted : 0 < o.num_observations
-    tied_counted = omega (arith, some_pair (pairs use_bytes h) some, length-map h.observations (pair_of use_bytes), t.count, t.kept.counted)
+    pub counted : 0 < o.num_observations
+    counted = omega (arith, some_pair (pairs use_bytes h) some, length-map h.observations (pair_of use_bytes), w.count, w.kept.counted)
 
     -- the ratio is within r/2^46 of the history's r
-    pub tied_ratio : ((Ratio.average_reported_loss_ratio o).refusal ≡ 0)
-        × Close (Ratio.average_reported_loss_ratio o).value (weighed_lost use_bytes h) (weighed_total use_bytes h)
-    tied_ratio = rw tied_reported (refl, close_any_order read (window use_bytes h) any_order sound short (aged_some 0 (pairs use_bytes h) some))
+    pub ratio_near : Close (ratio_of o) (weighed_lost use_bytes h) (weighed_total use_bytes h)
+    ratio_near = close_any_order read (window use_bytes h) any_order sound short (aged_some 0 (pairs use_bytes h) some)
 
     -- where r is at least 0.06, the ceiling is that of the ratio, within one part in 2^40 of the history's
-    pub tied_ceiling : 6 * weighed_total use_bytes h ≤ 100 * weighed_lost use_bytes h
-        → (Ratio.cached o.cached_instant_upper_bound ≡ Rate.rate (loss_ceiling (Ratio.average_reported_loss_ratio o).value))
-        × Capped (loss_ceiling (Ratio.average_reported_loss_ratio o).value) (weighed_lost use_bytes h) (weighed_total use_bytes h)
-    unfolding Ratio.instant_upper_bound Ratio.instant_limit Ratio.valid_or_max
-    tied_ceiling six =
+    pub ceiling_near : 6 * weighed_total use_bytes h ≤ 100 * weighed_lost use_bytes h
+        → (Ratio.valid_or_max (ceiling_of o) ≡ Rate.rate (loss_ceiling (ratio_of o)))
+        × Capped (loss_ceiling (ratio_of o)) (weighed_lost use_bytes h) (weighed_total use_bytes h)
+    unfolding Ratio.instant_limit Ratio.valid_or_max
+    ceiling_near six =
         let sets = ceiling_any_order read (window use_bytes h) any_order sound short (aged_some 0 (pairs use_bytes h) some) six in
-        rw tied_reported
-        (t.ceiling ∙ rw (tied_reported, sets.taken, plain_finite (loss_ceiling (loss_ratio read)) sets.capped.plainly), sets.capped)
+        (rw (sets.taken, plain_finite (loss_ceiling (ratio_of o)) sets.capped.plainly), sets.capped)

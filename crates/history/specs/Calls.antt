@@ -1,7 +1,6 @@
 -- The calls of demand 3 as data, and what the history is told of one. A rate is the 64 bits of its f64: no rate is lost by that (`every_rate` in
 -- `proofs/EveryRate`). A time is in ns. Definitions only.
-use Rattle.std.specs.Prelude.{ℕ, Bool, List}
-use Rattle.std.proofs.Math.Option.{Option}
+use Rattle.std.specs.Prelude.{ℕ, Bool, List, Option}
 
 -- "Its calls: the four setters, a report over the three lent columns, the reads"
 pub data Call : Type 0 where

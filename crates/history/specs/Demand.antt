@@ -1,10 +1,8 @@
 -- What demand 3 asks of a controller beside a history, and the claim over every list of calls. Definitions only.
-use Rattle.std.specs.Prelude.{ℕ, ◌*◌, ◌≤◌, ◌<◌, ◌≡◌, Bool, List, T, Float}
+use Rattle.std.specs.Prelude.{ℕ, ◌*◌, ◌≤◌, ◌<◌, ◌≡◌, Bool, List, T, IfSome, Result, IsOkAnd, Float}
+use Rattle.refusal.specs.declared.Refusal.{Refusal}
 use Rattle.rounding.specs.Exact.{Close, UnderCeiling}
 use Rattle.rounding.specs.Plain.{plain}
-use Rattle.float.specs.declared.FloatAnswer.{FloatAnswer}
-use Rattle.bandwidth.specs.declared.Bitrate.{Bitrate}
-use Rattle.bandwidth.specs.declared.OptionBitrate.TheVariants.{Some}
 use Rattle.loss_controller.specs.Result.{loss_based_result, average_reported_loss_ratio, num_observations}
 use Rattle.loss_controller.specs.declared.LossController.{LossController}
 use Rattle.history.specs.Calls.{Call}
@@ -13,9 +11,8 @@ use Rattle.history.specs.WeighedPairs.{pairs, weighed_lost, weighed_total, all_t
 use Rattle.history.specs.Run.{left, told}
 
 -- "the reported loss ratio is within r/2^46 of r", for r = l / t: not refused, finite with its sign clear, and so near
-pub record NearRatio (ratio : FloatAnswer) (l t : ℕ) : Type 0 where
-  pub taken : ratio.refusal ≡ 0
-  pub close : Close ratio.value l t
+abbrev pub NearRatio : Result Float Refusal → ℕ → ℕ → Type 0
+NearRatio ratio l t = IsOkAnd ratio (λ x. Close x l t)
 
 -- "no published rate exceeds 100,000/(r - 1/20) bit/s by more than one part in 2^40", for r = l / t: x is finite with its sign clear, and under that
 -- ceiling
@@ -31,11 +28,10 @@ pub record Demand (use_bytes : Bool) (c : LossController) (h : History) : Type 0
   -- "if the window has bytes", or packets: the ratio
   pub near : 0 < all_totals (pairs use_bytes h) → NearRatio (average_reported_loss_ratio c) (weighed_lost use_bytes h) (weighed_total use_bytes h)
   -- "a published rate is one that `loss_based_result` gives while the controller's own estimate is finite": each is finite with its sign clear
-  pub clear : (published : Bitrate) → (loss_based_result c).bandwidth_estimate ≡ Some published → T (plain published.bps)
+  pub clear : IfSome (loss_based_result c).bandwidth_estimate (λ published. T (plain published.bps))
   -- "and where r is at least 0.06": each is under the ceiling
   pub capped : 0 < all_totals (pairs use_bytes h) → 6 * weighed_total use_bytes h ≤ 100 * weighed_lost use_bytes h
-      → (published : Bitrate) → (loss_based_result c).bandwidth_estimate ≡ Some published
-      → UnderLossCeiling published.bps (weighed_lost use_bytes h) (weighed_total use_bytes h)
+      → IfSome (loss_based_result c).bandwidth_estimate (λ published. UnderLossCeiling published.bps (weighed_lost use_bytes h) (weighed_total use_bytes h))
 
 -- demand 3: for each profile, after every list of calls
 abbrev pub Demand3 : Type 0

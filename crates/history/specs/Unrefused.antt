@@ -1,38 +1,35 @@
 -- A refused call leaves no trace: the claim for any controller and any list of calls. Definitions only.
-use Rattle.std.specs.Prelude.{◌≡◌, Bool, cond, List, [], ◌∷◌, eqb}
+use Rattle.std.specs.Prelude.{◌≡◌, if◌then◌else◌, List, [], ◌∷◌, All, filter, Result, is_ok, IsOk, IsErr}
+use Rattle.refusal.specs.declared.Refusal.{Refusal}
 use Rattle.loss_controller.specs.declared.LossController.{LossController}
-use Rattle.loss_controller.specs.declared.ControllerAnswer.{ControllerAnswer}
 use Rattle.history.specs.Calls.{Call}
 use Rattle.history.specs.Run.{step, next, left_of}
 
 -- ---- the answers to a list of calls, oldest first
 
-abbrev pub is_taken : ControllerAnswer → Bool
-is_taken a = eqb a.refusal 0
-
-unfoldable pub answers_of : LossController → List Call → List ControllerAnswer
+unfoldable pub answers_of : LossController → List Call → List (Result LossController Refusal)
 answers_of c [] = []
 answers_of c (call ∷ calls) = step c call ∷ answers_of (next c call) calls
 
 -- the answers to "every other call"
-unfoldable pub without_refusals : List ControllerAnswer → List ControllerAnswer
-without_refusals [] = []
-without_refusals (a ∷ answers) = cond (is_taken a) (a ∷ without_refusals answers) (without_refusals answers)
+abbrev pub without_refusals : List (Result LossController Refusal) → List (Result LossController Refusal)
+without_refusals answers = filter is_ok answers
 
-abbrev pub NoneRefused : List ControllerAnswer → Type 0
-NoneRefused [] = Unit {0}
-NoneRefused (a ∷ answers) = (a.refusal ≡ 0) × NoneRefused answers
+abbrev pub NoneRefused : List (Result LossController Refusal) → Type 0
+NoneRefused answers = All IsOk answers
 
 -- "the sequence without the refused ones": the calls that are taken where they come in the whole sequence
 unfoldable pub without_refused : LossController → List Call → List Call
 without_refused c [] = []
-without_refused c (call ∷ calls) = cond (is_taken (step c call)) (call ∷ without_refused (next c call) calls) (without_refused (next c call) calls)
+without_refused c (call ∷ calls) =
+    let rest = without_refused (next c call) calls in
+    if is_ok (step c call) then call ∷ rest else rest
 
 -- ---- the claim
 
 -- demand 1: a refusal "hands the controller back unchanged"
 abbrev pub HandsBack : LossController → Call → Type 0
-HandsBack c call = ((step c call).refusal ≡ 0 → ⊥) → next c call ≡ c
+HandsBack c call = IsErr (step c call) → next c call ≡ c
 
 -- demand 2: "every other call in a sequence gives the Rust's answer to the sequence without the refused ones": the answer it has there, controller and
 -- all, for all calls there are taken; and both sequences leave the same controller

@@ -1,5 +1,5 @@
 -- The window of a history, as demand 3 weighs it under a profile: true for bytes, false for packets. Definitions only.
-use Rattle.std.specs.Prelude.{ℕ, ◌+◌, Bool, true, false, List, [], ◌∷◌, map}
+use Rattle.std.specs.Prelude.{ℕ, ◌+◌, Bool, true, false, List, [], ◌∷◌, map, sum_by}
 use Rattle.rounding.specs.Exact.{Measured, exact_lost, exact_total}
 use Rattle.history.specs.History.{Sums, History}
 
@@ -33,6 +33,5 @@ abbrev pub weighed_total : Bool → History → ℕ
 weighed_total use_bytes h = exact_total (window use_bytes h)
 
 -- "it has bytes if theirs sum to more than 0", or packets: their sum
-unfoldable pub all_totals : List Pair → ℕ
-all_totals [] = 0
-all_totals (p ∷ ps) = p.total + all_totals ps
+abbrev pub all_totals : List Pair → ℕ
+all_totals ps = sum_by (λ (p : Pair). p.total) ps

@@ -1,8 +1,6 @@
 -- Demand 3 and the theorem of the refusals hold of the thin forms as of the report over three columns. Assumes nothing.
-use Prim.Native.Nat.{ℕ}
-use mathlib.Core.Path.{◌≡◌, refl, sym, subst}
-use mathlib.Core.Bool.{Bool}
-use mathlib.Core.List.{List, [], ◌∷◌, foldl-append}
+use Rattle.std.proofs.Common.{◌≡◌, ℕ, Bool, List, [], ◌∷◌, refl, sym, subst}
+use Rattle.std.proofs.lemmas.List.Sums.{fold-append}
 use Rattle.packets.specs.declared.PacketResult.{PacketResult}
 use Rattle.loss_controller.specs.Controller.{initial}
 use Rattle.loss_controller.specs.Report.{update_bandwidth_estimate}
@@ -15,13 +13,14 @@ use Rattle.history.specs.Demand.{Demand}
 use Rattle.history.proofs.Demand.{demand_3}
 use Rattle.history.proofs.Refusals.{refusals}
 use Rattle.lent.specs.Records.{times, sizes, flags, update_records}
-use Rattle.lent.specs.Covered.{then, Covered}
+use Rattle.lent.specs.Covered.{then, left_by, Covered}
 
 -- any call's step
 step_covered : (use_bytes : Bool) (calls : List Call) (call : Call) → Covered use_bytes calls call (step (left use_bytes calls) call)
 step_covered use_bytes calls call =
     let longer = then calls call in
-    let one_more : (step (left use_bytes calls) call).controller ≡ left use_bytes longer = sym (foldl-append next (initial use_bytes) calls (call ∷ [])) in
+    let one_more : left_by use_bytes calls (step (left use_bytes calls) call) ≡ left use_bytes longer =
+    sym (fold-append next (initial use_bytes) calls (call ∷ [])) in
     record {
       steps = refl;
       refused = (refusals use_bytes calls).each call;

@@ -2,13 +2,16 @@
 // what the call by value over three columns gives.
 #![tactic(auto)]
 
-ghost use Rattle.std.specs.Prelude.{◌≡◌};
+ghost use Rattle.std.specs.Prelude.{◌≡◌, Ok};
+ghost use Rattle.std.specs.Result.{result_unwrap_or};
+ghost use Rattle.refusal.specs.Outcome.{and_then};
 ghost use Rattle.loss_controller.specs.Report.{update_bandwidth_estimate};
-ghost use Rattle.lent.specs.Records.{update_records, finished};
+ghost use Rattle.lent.specs.Records.{update_records};
 
 use bandwidth::Bitrate;
-use loss_controller::{ControllerAnswer, LossController};
-use packets::{PacketResult, PacketSize, SummaryAnswer};
+use loss_controller::LossController;
+use packets::{PacketResult, PacketResultsSummary, PacketSize};
+use refusal::Refusal;
 
 // The report over three columns, on a controller that is lent. A refusal leaves it as it was.
 pub fn update_lent(
@@ -17,20 +20,14 @@ pub fn update_lent(
     sizes: &[PacketSize],
     flags: &[u8],
     delay_based_estimated: Bitrate,
-) -> u8
-    ensures { (result
-        ≡ (update_bandwidth_estimate controller.old times.now sizes.now flags.now delay_based_estimated).refusal)
-        × (controller.new
-        ≡ (update_bandwidth_estimate controller.old times.now sizes.now flags.now delay_based_estimated).controller) }
+) -> Result<(), Refusal>
+    ensures answered { result
+        ≡ and_then (update_bandwidth_estimate controller.old times.now sizes.now flags.now delay_based_estimated) (λ _. Ok tt) }
+    ensures left { controller.new
+        ≡ result_unwrap_or (update_bandwidth_estimate controller.old times.now sizes.now flags.now delay_based_estimated) controller.old }
 {
-    let answer = (*controller).update_bandwidth_estimate(
-        times,
-        sizes,
-        flags,
-        delay_based_estimated,
-    );
-    *controller = answer.controller;
-    answer.refusal
+    *controller = controller.update_bandwidth_estimate(times, sizes, flags, delay_based_estimated)?;
+    Ok(())
 }
 
 // The report over packet records.
@@ -38,46 +35,16 @@ pub fn update_records(
     controller: LossController,
     records: &[PacketResult],
     delay_based_estimated: Bitrate,
-) -> ControllerAnswer
+) -> Result<LossController, Refusal>
     ensures { result ≡ update_records controller records.now delay_based_estimated }
 {
-    let mut summed = SummaryAnswer::refused(0);
-    let mut i = 0;
-    while i < records.len() {
-        summed = summed.add(records[i]);
-        i += 1;
+    if records.len() > packets::MOST_PACKETS_IN_REPORT {
+        return Err(Refusal::TooManyPackets);
     }
-    finish(controller, records.len(), summed, delay_based_estimated)
-}
-
-// The report once its records are summed.
-fn finish(
-    controller: LossController,
-    count: usize,
-    summed: SummaryAnswer,
-    delay_based_estimated: Bitrate,
-) -> ControllerAnswer
-    ensures { result ≡ finished controller count summed delay_based_estimated }
-{
-    if count > packets::MOST_PACKETS_IN_REPORT {
-        return ControllerAnswer {
-            controller,
-            refusal: 5,
-        };
+    loss_controller::check_rate(delay_based_estimated)?;
+    let mut summary = PacketResultsSummary::EMPTY;
+    for record in records {
+        summary = summary.add(*record)?;
     }
-    let refusal = loss_controller::rate_refusal(delay_based_estimated);
-    if refusal != 0 {
-        return ControllerAnswer {
-            controller,
-            refusal,
-        };
-    }
-    let refusal = summed.refusal;
-    if refusal != 0 {
-        return ControllerAnswer {
-            controller,
-            refusal,
-        };
-    }
-    controller.update_with_summary(summed.summary, delay_based_estimated)
+    controller.update_with_summary(summary, delay_based_estimated)
 }

@@ -1,13 +1,13 @@
 -- Worked examples of the definitions in specs/, which antt computes. The stated bits are those that the oracle's functions give: the
 -- Rust's, with the edits that oracle/README.md lists. They test the definitions; no proof cites them.
-use Rattle.std.specs.Prelude.{ℕ, ◌≡◌, refl, Bool, true, false, List, [], ◌∷◌, map, Float}
+use Rattle.std.specs.Prelude.{ℕ, ◌≡◌, refl, Bool, true, false, List, [], ◌∷◌, map, Ok, Err, Float}
 use Rattle.std.specs.Float.{binary64}
 use Rattle.std.specs.Float.Ieee.{add, div, eq, is_nan, le, lt, mul, of_bits, of_int, sub, to_bits}
+use Rattle.refusal.specs.declared.Refusal.TheVariants.{NoLogarithm}
 use Rattle.float.specs.Rounded.{bits}
 use Rattle.float.specs.Rust.{magnitude, maximum, minimum, sign_bit}
-use Rattle.float.specs.Answer.{answered, clamped}
 use Rattle.bandwidth.specs.declared.Bitrate.{Bitrate}
-use Rattle.bandwidth.specs.Rate.{minus, rate}
+use Rattle.bandwidth.specs.Rate.{rate}
 use Rattle.logarithm.specs.Ln.{logarithm}
 use Rattle.logarithm.specs.Power.{power}
 use Rattle.likelihood.specs.Feasible.{upper_bound, feasible}
@@ -72,7 +72,7 @@ probabilities :
     × each (λ x. probability x (bps million) (bps million)) (hundredth ∷ 0 ∷ []) ≡ hundredth ∷ 0x3EB0C6F7A0B5ED8D ∷ []
     × each (λ x. probability (bits hundredth) (bps million) (rate x)) (0x7FF0000000000000 ∷ []) ≡ hundredth ∷ []
     × each (λ x. probability (bits hundredth) (rate x) (bps million)) (0x7FF8000000000000 ∷ []) ≡ hundredth ∷ []
-unfolding each probability congested clamped minus add div eq le lt mul of_bits sub to_bits
+unfolding each probability congested add div eq le lt mul of_bits sub to_bits
 probabilities = (refl, refl, refl, refl)
 
 -- ---- derivatives and Newton's step
@@ -89,7 +89,7 @@ rows =
     row false 0 0 0 0 0xFFF0000000000000 ∷
     []
 
--- 0, -0, a NaN, 1, infinity, -1, minus infinity
+-- 0, -0, a NaN, 1, infinity, -1, infinity
 safe_examples :
     each safe (0 ∷ 0x8000000000000000 ∷ 0x7FF8000000000000 ∷ 0x3FF0000000000000 ∷ 0x7FF0000000000000 ∷ 0xBFF0000000000000 ∷ 0xFFF0000000000000 ∷ []) ≡
     0xBEB0C6F7A0B5ED8D ∷ 0xBEB0C6F7A0B5ED8D ∷ 0xBEB0C6F7A0B5ED8D ∷ 0xBEB0C6F7A0B5ED8D ∷ 0xBEB0C6F7A0B5ED8D ∷ 0xBFF0000000000000 ∷ 0xFFF0000000000000 ∷ []
@@ -101,7 +101,7 @@ derivatives_examples :
     derivatives rows (candidate hundredth two_million) ≡ record { first = bits 0x4025D1745D1745D1; second = bits 0xC096B6823BB5B720 }
     × derivatives [] (candidate hundredth million) ≡ record { first = bits 0; second = bits 0xBEB0C6F7A0B5ED8D }
     × derivatives rows (candidate 0x7FF8000000000000 million) ≡ record { first = bits 0x7FF8000000000000; second = bits 0xBEB0C6F7A0B5ED8D }
-unfolding rows derivatives add_derivatives safe sign_bit probability congested clamped minus power add div eq is_nan le lt mul of_bits sub to_bits
+unfolding rows derivatives add_derivatives safe sign_bit probability congested power add div eq is_nan le lt mul of_bits sub to_bits
 derivatives_examples = (refl, refl, refl)
 
 -- a step within the bounds, one below them, and one from a NaN
@@ -109,7 +109,7 @@ newton_examples :
     newton rows (candidate hundredth two_million) ≡ candidate 0x3F9000EE769902E8 two_million
     × newton rows (candidate hundredth million) ≡ candidate 0x3F50624DD2F1A9FC million
     × newton rows (candidate 0x7FF8000000000000 million) ≡ candidate 0x3F50624DD2F1A9FC million
-unfolding rows newton feasible upper_bound derivatives add_derivatives safe sign_bit probability congested clamped minus minimum maximum power add
+unfolding rows newton feasible upper_bound derivatives add_derivatives safe sign_bit probability congested minimum maximum power add
     div eq is_nan le lt mul of_bits sub to_bits
 newton_examples = (refl, refl, refl)
 
@@ -133,8 +133,8 @@ adjusted_examples = (refl, refl, refl)
 -- at the ratio 0.1: 1,000,000 and -0.5 bit/s, infinity, a NaN; refused at -1 bit/s
 bias_examples :
     map (λ b. bias (bps b) (bits tenth)) (million ∷ 0xBFE0000000000000 ∷ 0x7FF0000000000000 ∷ 0x7FF8000000000000 ∷ 0xBFF0000000000000 ∷ []) ≡
-    answered (bits 0x40688B2DA9037CD7) ∷ answered (bits 0xBF8C091001EDE987) ∷ answered (bits 0) ∷ answered (bits 0)
-    ∷ record { value = bits 0; refusal = 6 } ∷ []
+    Ok (bits 0x40688B2DA9037CD7) ∷ Ok (bits 0xBF8C091001EDE987) ∷ Ok (bits 0) ∷ Ok (bits 0)
+    ∷ Err NoLogarithm ∷ []
 unfolding bias adjusted logarithm magnitude add div le lt mul of_bits of_int sub to_bits
 bias_examples = refl
 
@@ -152,12 +152,12 @@ packet_rows =
 objective_examples :
     map (objective true rows (bits tenth))
     (candidate hundredth million ∷ candidate 0x3FE0000000000000 0x41324F8000000000 ∷ candidate hundredth 0x7FF0000000000000 ∷ []) ≡
-    answered (bits 0x3FE7303F4DB8C88F) ∷ answered (bits 0x3FEBC6E44BFD0D5C) ∷ answered (bits 0xBF470D34D5CD008D) ∷ []
+    Ok (bits 0x3FE7303F4DB8C88F) ∷ Ok (bits 0x3FEBC6E44BFD0D5C) ∷ Ok (bits 0xBF470D34D5CD008D) ∷ []
     × map (objective false packet_rows (bits tenth))
     (candidate hundredth million ∷ candidate 0x3FE0000000000000 0x41324F8000000000 ∷ candidate hundredth 0x7FF0000000000000 ∷ []) ≡
-    answered (bits 0x40BC4CE737A9C32A) ∷ answered (bits 0x40C0F4999D82DCC6) ∷ answered (bits 0xC0315FB1BDDBA033) ∷ []
-    × objective true rows (bits tenth) (candidate 0x7FF8000000000000 million) ≡ record { value = bits 0; refusal = 6 }
-    × objective false rows (bits tenth) (candidate hundredth 0xBFF0000000000000) ≡ record { value = bits 0; refusal = 6 }
-unfolding rows packet_rows objective add_terms terms with_terms bias adjusted logarithm magnitude probability congested clamped minus add div eq le lt mul
+    Ok (bits 0x40BC4CE737A9C32A) ∷ Ok (bits 0x40C0F4999D82DCC6) ∷ Ok (bits 0xC0315FB1BDDBA033) ∷ []
+    × objective true rows (bits tenth) (candidate 0x7FF8000000000000 million) ≡ Err NoLogarithm
+    × objective false rows (bits tenth) (candidate hundredth 0xBFF0000000000000) ≡ Err NoLogarithm
+unfolding rows packet_rows objective add_terms terms with_terms bias adjusted logarithm magnitude probability congested add div eq le lt mul
     of_bits of_int sub to_bits
 objective_examples = (refl, refl, refl, refl)

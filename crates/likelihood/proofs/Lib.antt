@@ -1,3 +1,4 @@
+pub mod Answered
 pub mod Probability
 pub mod Probable
 pub mod Judged

@@ -1,23 +1,10 @@
--- No step of `probability` is refused: neither of its clamps, nor the difference that `congested` takes. Assumes nothing.
-use mathlib.Core.Path.{◌≡◌, refl}
-use mathlib.Core.Bool.{true}
-use lib.Ieee.{Float, le, lt, of_bits, sub}
-use Rattle.float.specs.Rounded.{bits, one, ◌⊖◌}
-use Rattle.float.specs.Answer.{clamped}
-use Rattle.bandwidth.specs.Rate.{minus, answered, rate}
+-- The difference that `congested` takes is not refused. Assumes nothing.
+use Rattle.std.proofs.Common.{◌≡◌, true, Ok}
+use Rattle.std.specs.Float.Ieee.{le, lt}
+use Rattle.float.specs.Rounded.{◌⊖◌}
+use Rattle.bandwidth.specs.Rate.{minus, rate}
 use Rattle.bandwidth.specs.declared.Bitrate.{Bitrate}
-use Rattle.likelihood.specs.Probability.{least}
 
-pub inherent_taken : (x : Float) → (clamped x (bits 0) one).refusal ≡ 0
-unfolding clamped le lt of_bits
-inherent_taken x = refl
-
-pub whole_taken : (x : Float) → (clamped x least (one ⊖ least)).refusal ≡ 0
-unfolding clamped le lt of_bits sub
-whole_taken x = refl
-
-pub difference_taken :
-    (sending limited : Bitrate) → lt limited.bps sending.bps ≡ true →
-    minus sending limited ≡ answered (rate (sending.bps ⊖ limited.bps))
+pub difference_taken : (sending limited : Bitrate) → lt limited.bps sending.bps ≡ true → minus sending limited ≡ Ok (rate (sending.bps ⊖ limited.bps))
 unfolding minus le
 difference_taken sending limited h = rw h

@@ -1,34 +1,31 @@
 -- A loss probability and its complement have logarithms, at any sending rate of binary64 and any bandwidth that is not negative. Assumes nothing.
-use Prim.Native.Nat.{ℕ, ◌+◌, ◌-◌, ◌*◌, ◌≤◌, ◌<◌}
-use mathlib.Core.Path.{◌≡◌, refl}
-use mathlib.Core.Bool.{true, false, ◌&&◌, true≢false}
-use native.Mathlib.Nat.{le_of_eq, le_of_lt, mul-pos, one-mul, mul-le-mul_right, sub-le, sub-add_cancel}
-use native.Mathlib.Omega.{arith}
-use borrow.Author.Tests.{ltb-true, ltb-false}
-use lib.Dec.{T, lit<}
-use lib.Ieee.{Float, nan, inf, fin, binary64, up, down, round, add, sub, lt, le, fits, is_nan, of_bits}
+use Rattle.std.proofs.Common.{◌≡◌, ℕ, suc, ◌+◌, ◌-◌, ◌*◌, ◌^◌, ◌≤◌, ◌<◌, true, false, ◌&&◌, T, ℤ, pos, negsuc, refl, sym, ap, ◌∙◌, le_of_eq, le_of_lt, le_refl, le_trans, mul-pos, one-mul, mul-one, mul-le-mul_right, mul_assoc, sub-le, sub-add_cancel, lt_of_not-le, not-le_of_lt, lt_of_mul-lt-mul_right, arith, lit<, pow_mono, pow-add, ltb-true, ltb-false, true≢false}
+use Rattle.std.proofs.lemmas.Float.{T_from_true, T_from_false, le_of_not-lt}
+use Rattle.std.specs.Float.{float_clamp}
+use Rattle.std.specs.Result.{IsOk}
+use lib.Pow.{pow-lt}
+use lib.Ieee.{Float, nan, inf, fin, binary64, low, emax, up, down, round, add, sub, lt, le, fits, is_nan, of_bits}
+use lib.Ieee.Digits.{back}
 use lib.Ieee.Bits.{is_true}
-use lib.Ieee.Exact.{HasValue}
+use lib.Ieee.Exact.{HasValue, round_exact}
 use lib.Ieee.Fits.{and_l, and_r, down_pos}
-use lib.Ieee.Order.{round_mono, le_of_values}
+use lib.Ieee.Order.{round_mono}
 use lib.Ieee.Positive.{num, den, den_pos, first_pos, positive, between, le_trans_positive, sub_anti, value→cross, through}
 use lib.Ieee.Scale.{finite}
 use Rattle.float.specs.Rounded.{bits, one, ◌⊖◌, ◌⊘◌}
-use Rattle.float.specs.Answer.{clamped}
-use Rattle.float.proofs.Exact.{fits_says, held_exact}
+use Rattle.float.proofs.Fits.{fits_says}
 use Rattle.float.proofs.NotNan.{NotNan, add_not_nan, mul_not_nan}
 use Rattle.float.proofs.NotNegative.{upward, round_upward, above_upward}
 use Rattle.float.proofs.Refusal.{tested}
-use Rattle.float.proofs.Values.{yes}
 use Rattle.bandwidth.specs.declared.Bitrate.{Bitrate}
 use Rattle.logarithm.specs.Ln.{logarithm}
 use Rattle.logarithm.proofs.Logarithms.{logarithm_between}
 use Rattle.rounding.specs.Plain.{plain}
 use Rattle.rounding.proofs.Operations.{sub_is, div_is, lt_is}
-use Rattle.rounding.proofs.Order.{Under, under_of_not_lt, round_under}
+use Rattle.rounding.proofs.Order.{Under, round_under}
 use Rattle.rounding.proofs.Upward.{upward_plain}
 use Rattle.likelihood.specs.Probability.{least, congested, probability}
-use Rattle.likelihood.proofs.Probability.{difference_taken}
+use Rattle.likelihood.proofs.Answered.{ok_of_number}
 
 -- ---- what is finite
 
@@ -70,13 +67,20 @@ loss_between (fin true m e) n l h =
 loss_between (fin false m e) n l h =
     record { itself = tt; rest = rw h (part_finite (1 * down e - m * up e * 1) (1 * down e) (mul-pos (lit< tt) (down_pos e)) (omega arith)) }
 
-inherent_finite : (x : Float) → NotNan x → FiniteLoss (clamped x (bits 0) one).value
-unfolding clamped le lt of_bits sub
+inherent_finite : (x : Float) → NotNan x → FiniteLoss (float_clamp x (bits 0) one)
+unfolding lt of_bits sub
 inherent_finite x n =
     tested FiniteLoss (lt x (bits 0)) (λ h. record { itself = tt; rest = tt })
     (λ l. tested FiniteLoss (lt one x) (λ h. record { itself = tt; rest = tt }) (loss_between x n l))
 
 -- ---- the share of what is sent that is above the bandwidth
+
+-- 2 ^ e is a multiple of the smallest float
+scaled : (e : ℤ) → down e ≤ 2 ^ low binary64 → (j : ℕ) × (up e * 2 ^ low binary64 ≡ 2 ^ j * down e)
+scaled (pos k) h = (k + low binary64, sym (pow-add 2 k (low binary64)) ∙ sym (mul-one (2 ^ (k + low binary64))))
+scaled (negsuc k) h =
+    let l : k < low binary64 = lt_of_not-le (λ g. not-le_of_lt (pow-lt (le_refl (suc k))) (le_trans h (pow_mono g))) in
+    (low binary64 - suc k, one-mul (2 ^ low binary64) ∙ ap (λ (i : ℕ). 2 ^ i) (sym (back (low binary64) (suc k) l)) ∙ pow-add 2 (low binary64 - suc k) (suc k))
 
 -- a plain float of binary64 is exact
 plain_exact : (x : Float) → T (plain x) → T (fits binary64 x) → HasValue (round binary64 false (num x) (den x)) false (num x) (den x)
@@ -84,8 +88,12 @@ plain_exact nan p f = elim p [ ]
 plain_exact (inf _) p f = elim p [ ]
 plain_exact (fin true m e) p f = elim p [ ]
 plain_exact (fin false m e) p f =
-    let s : 1 * (m * up e) ≡ m * up e = one-mul (m * up e) in
-    held_exact binary64 false false m e 0 (m * up e) (down e) f (down_pos e) (rw s) (rw s (fits_says binary64 false m e f).2)
+    let k = fits_says binary64 false m e f in
+    let j = scaled e k.1 in
+    let l = 2 ^ low binary64 in
+    let same : m * up e * l ≡ m * 2 ^ j.0 * down e = mul_assoc m (up e) l ∙ ap (λ (i : ℕ). m * i) j.1 ∙ sym (mul_assoc m (2 ^ j.0) (down e)) in
+    let fine : m * 2 ^ j.0 * down e < l * 2 ^ suc (emax binary64) * down e = omega (arith, same, k.2) in
+    round_exact binary64 false (m * up e) (down e) m j.0 (down_pos e) k.0 (rw (pow-add 2 (low binary64) (suc (emax binary64))) (lt_of_mul-lt-mul_right (down e) fine)) same
 
 value_finite : (x : Float) (a c : ℕ) → HasValue x false a c → T (finite x)
 value_finite nan a c v = elim v [ ]
@@ -127,11 +135,10 @@ congested_not_nan i limited sending k u fit =
     let l = limited.bps in
     tested NotNan (finite s && finite l && lt l s)
     (λ h.
-    let both : T (finite s && finite l) = and_l (finite s && finite l) (lt l s) (yes h) in
-    let less : lt l s ≡ true = is_true (lt l s) (and_r (finite s && finite l) (lt l s) (yes h)) in
+    let both : T (finite s && finite l) = and_l (finite s && finite l) (lt l s) (T_from_true _ h) in
+    let less : lt l s ≡ true = is_true (lt l s) (and_r (finite s && finite l) (lt l s) (T_from_true _ h)) in
     let share = share_finite s l fit (and_l (finite s) (finite l) both) (and_r (finite s) (finite l) both) u less in
-    rw (difference_taken sending limited less)
-    (add_not_nan i _ k.itself (mul_not_nan (one ⊖ i) ((s ⊖ l) ⊘ s) k.rest share)))
+    add_not_nan i _ k.itself (mul_not_nan (one ⊖ i) ((s ⊖ l) ⊘ s) k.rest share))
     (λ h. finite_not_nan i k.itself)
   where
     finite_not_nan : (x : Float) → T (finite x) → NotNan x
@@ -143,8 +150,8 @@ congested_not_nan i limited sending k u fit =
 
 -- p and 1 - p have logarithms
 pub record Probable (p : Float) : Type 0 where
-  pub lost : (logarithm p).refusal ≡ 0
-  pub received : (logarithm (one ⊖ p)).refusal ≡ 0
+  pub lost : IsOk (logarithm p)
+  pub received : IsOk (logarithm (one ⊖ p))
 
 -- 1 - 0.000001, rounded
 abbrev most : Float
@@ -156,35 +163,17 @@ between_probable p l h =
     let P : T (positive p) = between least p most tt tt l h in
     let up_to : T (le p one) = le_trans_positive p most one P tt tt h tt in
     record {
-      lost = logarithm_between least p most tt tt tt tt l h;
+      lost = ok_of_number _ (logarithm_between least p most tt tt tt tt l h);
       received =
-          logarithm_between (one ⊖ most) (one ⊖ p) most tt tt tt tt (sub_anti binary64 one p most tt P tt h tt) (sub_anti binary64 one least p tt tt P l up_to);
+          ok_of_number _ (logarithm_between (one ⊖ most) (one ⊖ p) most tt tt tt tt (sub_anti binary64 one p most tt P tt h tt) (sub_anti binary64 one least p tt tt P l up_to));
     }
 
-under_le : (x y : Float) → Under x y → T (le x y)
-under_le x y u = le_of_values x y (num x) (den x) (num y) (den y) (den_pos x) (den_pos y) (own x u.left) (own y u.right) u.below
-  where
-    own : (x : Float) → T (plain x) → HasValue x false (num x) (den x)
-    own nan p = elim p [ ]
-    own (inf _) p = elim p [ ]
-    own (fin true m e) p = elim p [ ]
-    own (fin false m e) p = (refl, refl)
-
--- what is neither NaN nor beyond the ends
-inside_plain : (x : Float) → NotNan x → lt x least ≡ false → lt most x ≡ false → T (plain x)
-unfolding is_nan lt of_bits sub
-inside_plain nan n l h = absurd (true≢false n)
-inside_plain (inf true) n l h = absurd (true≢false l)
-inside_plain (inf false) n l h = absurd (true≢false h)
-inside_plain (fin true m e) n l h = absurd (omega (arith, ltb-false, down_pos e))
-inside_plain (fin false m e) n l h = tt
-
-clamped_probable : (x : Float) → NotNan x → Probable (clamped x least most).value
-unfolding clamped le of_bits sub
+clamped_probable : (x : Float) → NotNan x → Probable (float_clamp x least most)
+unfolding le of_bits sub is_nan
 clamped_probable x n =
     tested Probable (lt x least) (λ h. between_probable least tt tt)
     (λ l. tested Probable (lt most x) (λ h. between_probable most tt tt)
-    (λ h. let p = inside_plain x n l h in between_probable x (under_le least x (under_of_not_lt p tt l)) (under_le x most (under_of_not_lt tt p h))))
+    (λ h. between_probable x (le_of_not-lt x least (T_from_false _ n) tt (T_from_false _ l)) (le_of_not-lt most x tt (T_from_false _ n) (T_from_false _ h))))
 
 -- so it is with the probability of a rate of binary64 under a bandwidth that is not negative
 pub probability_probable :

@@ -1,6 +1,6 @@
 -- The derivatives of the likelihood and Newton's step on the inherent loss. Definitions only.
-use Rattle.std.specs.Prelude.{cond, not, ◌||◌, Float}
-use mathlib.Core.List.{List, foldl}
+use Rattle.std.specs.Prelude.{if◌then◌else◌, not, ◌||◌, List, Float}
+use mathlib.Core.List.{foldl}
 use Rattle.std.specs.Float.Ieee.{eq, is_nan}
 use Rattle.float.specs.Rounded.{bits, one, ◌⊕◌, ◌⊖◌, ◌⊗◌, ◌⊘◌}
 use Rattle.float.specs.Rust.{sign_bit}
@@ -14,31 +14,28 @@ use Rattle.likelihood.specs.declared.Row.{Row}
 
 -- A second derivative that is zero, NaN or without a sign bit becomes -0.000001 ("Corners, file by file")
 unfoldable pub safe : Float → Float
-safe x = cond (not (sign_bit x) || eq x (bits 0) || is_nan x) (bits 0xBEB0C6F7A0B5ED8D) x
+safe x = if not (sign_bit x) || eq x (bits 0) || is_nan x then bits 0xBEB0C6F7A0B5ED8D else x
 
 -- a row's part in both sums, where it is initialized (get_derivatives)
 unfoldable pub add_derivatives : ChannelParameters → Derivatives → Row → Derivatives
 add_derivatives c d row =
     let p = row_probability c row in
-    cond row.is_initialized
-    (record {
+    if row.is_initialized
+    then (record {
       first = d.first ⊕ row.weight ⊗ (row.lost ⊘ p ⊖ row.received ⊘ (one ⊖ p));
       second = d.second ⊖ row.weight ⊗ (row.lost ⊘ power p 2 ⊕ row.received ⊘ power (one ⊖ p) 2);
     })
-    d
+    else d
 
 -- sums run in slot order, from 0.0 (get_derivatives)
 unfoldable pub derivatives : List Row → ChannelParameters → Derivatives
 derivatives rows c =
     let sums = foldl (add_derivatives c) (record { first = bits 0; second = bits 0 }) rows in
-    record { first = sums.first; second = safe sums.second }
-
--- the parameters with another inherent loss
-abbrev pub with_loss : ChannelParameters → Float → ChannelParameters
-with_loss c loss = record { inherent_loss = loss; loss_limited_bandwidth = c.loss_limited_bandwidth }
+    record sums { second = safe sums.second }
 
 -- One Newton step of 0.75, feasible again ("One report, in order"; newtons_method_update)
 unfoldable pub newton : List Row → ChannelParameters → ChannelParameters
 newton rows c =
     let d = derivatives rows c in
-    with_loss c (feasible (with_loss c (c.inherent_loss ⊖ newton_step_size ⊗ (d.first ⊘ d.second))))
+    let stepped = c.inherent_loss ⊖ newton_step_size ⊗ (d.first ⊘ d.second) in
+    record c { inherent_loss = feasible (record c { inherent_loss = stepped }) }

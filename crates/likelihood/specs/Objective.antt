@@ -1,12 +1,11 @@
 -- A candidate's objective: get_objective. Definitions only.
-use Rattle.std.specs.Prelude.{Bool, cond, Float}
-use mathlib.Core.List.{List, foldl}
+use Rattle.std.specs.Prelude.{Bool, if◌then◌else◌, List, Float, Result, Ok}
+use Rattle.refusal.specs.Outcome.{and_then, try_fold}
+use Rattle.refusal.specs.declared.Refusal.{Refusal}
 use Rattle.float.specs.Rounded.{bits, one, thousand, ◌⊕◌, ◌⊖◌, ◌⊗◌, ◌⊘◌}
-use Rattle.float.specs.Answer.{answered}
-use Rattle.float.specs.declared.FloatAnswer.{FloatAnswer}
 use Rattle.logarithm.specs.Ln.{logarithm}
 use Rattle.likelihood.specs.Probability.{row_probability}
-use Rattle.likelihood.specs.Bias.{onward, bias}
+use Rattle.likelihood.specs.Bias.{bias}
 use Rattle.likelihood.specs.declared.ChannelParameters.{ChannelParameters}
 use Rattle.likelihood.specs.declared.Row.{Row}
 
@@ -14,24 +13,24 @@ use Rattle.likelihood.specs.declared.Row.{Row}
 -- bias b; by bytes each count is divided by 1000.0, by packets there is none to divide (Q-7)
 unfoldable pub with_terms : Bool → Row → Float → Float → Float → Float → Float
 with_terms use_bytes row b ln_lost ln_received o =
-    cond use_bytes
-    (o ⊕ row.weight ⊗ (row.lost ⊘ thousand ⊗ ln_lost ⊕ row.received ⊘ thousand ⊗ ln_received) ⊕ row.weight ⊗ b ⊗ row.total ⊘ thousand)
-    (o ⊕ row.weight ⊗ (row.lost ⊗ ln_lost ⊕ row.received ⊗ ln_received) ⊕ row.weight ⊗ b ⊗ row.total)
+    if use_bytes
+    then o ⊕ row.weight ⊗ (row.lost ⊘ thousand ⊗ ln_lost ⊕ row.received ⊘ thousand ⊗ ln_received) ⊕ row.weight ⊗ b ⊗ row.total ⊘ thousand
+    else o ⊕ row.weight ⊗ (row.lost ⊗ ln_lost ⊕ row.received ⊗ ln_received) ⊕ row.weight ⊗ b ⊗ row.total
 
--- the same of a row at a candidate, whose loss probability gives the logarithms; the first that is refused is the answer
-unfoldable pub terms : Bool → ChannelParameters → Float → Row → Float → FloatAnswer
+-- the same of a row at a candidate, whose loss probability gives the logarithms
+unfoldable pub terms : Bool → ChannelParameters → Float → Row → Float → Result Float Refusal
 terms use_bytes c b row o =
     let p = row_probability c row in
-    onward (logarithm p) (λ ln_lost.
-    onward (logarithm (one ⊖ p)) (λ ln_received.
-    answered (with_terms use_bytes row b ln_lost ln_received o)))
+    and_then (logarithm p) (λ ln_lost.
+    and_then (logarithm (one ⊖ p)) (λ ln_received.
+    Ok (with_terms use_bytes row b ln_lost ln_received o)))
 
--- a row's terms, where it is initialized; an objective that is refused stays so
-unfoldable pub add_terms : Bool → ChannelParameters → Float → FloatAnswer → Row → FloatAnswer
-add_terms use_bytes c b sum row = cond row.is_initialized (onward sum (terms use_bytes c b row)) sum
+-- a row's terms, where it is initialized
+unfoldable pub add_terms : Bool → ChannelParameters → Float → Float → Row → Result Float Refusal
+add_terms use_bytes c b o row = if row.is_initialized then terms use_bytes c b row o else Ok o
 
--- the bias first, then the rows in slot order, from 0.0
-unfoldable pub objective : Bool → List Row → Float → ChannelParameters → FloatAnswer
+-- the bias first, then the rows in slot order, from 0.0; the first logarithm that is refused refuses it
+unfoldable pub objective : Bool → List Row → Float → ChannelParameters → Result Float Refusal
 objective use_bytes rows ratio c =
-    let b = bias c.loss_limited_bandwidth ratio in
-    foldl (add_terms use_bytes c b.value) (record { value = bits 0; refusal = b.refusal }) rows
+    and_then (bias c.loss_limited_bandwidth ratio) (λ b.
+    try_fold (add_terms use_bytes c b) (bits 0) rows)

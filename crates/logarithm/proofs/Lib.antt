@@ -1,4 +1,3 @@
-pub mod Exponent
 pub mod Steps
 pub mod Table
 pub mod Logarithms

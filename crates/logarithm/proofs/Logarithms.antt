@@ -15,8 +15,9 @@ use lib.Ieee.Order.{round_mono}
 use lib.Ieee.Positive.{positive, between, le_trans_positive}
 use lib.Ieee.Scale.{finite}
 use Rattle.float.specs.Rounded.{bits, one, ◌⊕◌}
-use Rattle.float.proofs.Exact.{fits_says}
+use Rattle.float.proofs.Fits.{fits_says}
 use Rattle.float.proofs.NotNegative.{NotNegative}
+use Rattle.refusal.specs.Outcome.{number}
 use Rattle.logarithm.specs.Ln.{logarithm}
 
 -- ---- between two normal floats
@@ -31,7 +32,7 @@ largest = bits 0x7FEFFFFFFFFFFFFF
 
 -- a float from lo to hi, both of them normal, has a logarithm
 pub logarithm_between : (lo x hi : Float) → T (positive lo) → T (positive hi) → T (le smallest lo) → T (le hi largest) → T (le lo x) → T (le x hi)
-    → (logarithm x).refusal ≡ 0
+    → number (logarithm x) ≡ 0
 unfolding logarithm of_bits
 logarithm_between lo x hi p q normal finite l h =
     let z : T (positive x) = between lo x hi p q l h in
@@ -84,7 +85,7 @@ unfolding of_bits le
 one_normal = tt
 
 -- 1 more than what is finite and not negative has a logarithm
-pub one_more : (x : Float) → NotNegative x → T (finite x) → (logarithm (one ⊕ x)).refusal ≡ 0
+pub one_more : (x : Float) → NotNegative x → T (finite x) → number (logarithm (one ⊕ x)) ≡ 0
 unfolding of_bits add sum
 one_more lib.Ieee.nan n f = elim f [ ]
 one_more (lib.Ieee.inf _) n f = elim f [ ]

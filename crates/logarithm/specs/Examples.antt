@@ -1,16 +1,18 @@
 -- Worked examples of the definitions beside this file, which antt computes. The stated bits are those that oracle/src/steps.rs gives.
 -- They test the definitions; no proof cites them.
 use Rattle.std.specs.Prelude.{ℕ, zero, suc, ◌≡◌, refl, true, false, List, [], ◌∷◌, map, Float}
+use Rattle.std.specs.Result.{result_unwrap_or}
 use Rattle.std.specs.Float.{binary64}
 use Rattle.std.specs.Float.Ieee.{add, div, eq, le, lt, mul, of_bits, of_int, sub, to_bits}
 use Rattle.float.specs.Rounded.{bits, one, ◌⊗◌}
+use Rattle.refusal.specs.Outcome.{number}
 use Rattle.logarithm.specs.Ln.{logarithm}
 use Rattle.logarithm.specs.Power.{power, ninetenths, weight}
 
 -- ---- the logarithm
 
 logarithms : List ℕ → List ℕ
-logarithms = map (λ b. to_bits binary64 (logarithm (bits b)).value)
+logarithms = map (λ b. to_bits binary64 (result_unwrap_or (logarithm (bits b)) (bits 0)))
 
 -- ln of 10, 0.5, 3 (not the nearest float), 10^-6, 1 - 10^-6
 ordinary_arguments :
@@ -27,7 +29,7 @@ unfolding logarithms logarithm add div le lt mul of_bits of_int sub to_bits
 arguments_at_an_end = refl
 
 refusal : List ℕ → List ℕ
-refusal = map (λ b. (logarithm (bits b)).refusal)
+refusal = map (λ b. number (logarithm (bits b)))
 
 -- refused: both zeros, the largest subnormal, -1, both infinities, a NaN; taken: the smallest normal and the largest finite
 refusals :

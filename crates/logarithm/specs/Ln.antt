@@ -1,10 +1,10 @@
 -- The natural logarithm by document 01's steps ("Logarithm and powers"), under the paper's names. Definitions only.
-use Rattle.std.specs.Prelude.{ℕ, ◌+◌, ◌*◌, ◌/◌, ◌%◌, ◌^◌, cond, ◌&&◌, pos, ◌-ℤ◌, Float}
+use Rattle.std.specs.Prelude.{ℕ, ◌+◌, ◌*◌, ◌/◌, ◌%◌, ◌^◌, if◌then◌else◌, ◌&&◌, pos, ◌-ℤ◌, Float, Result, Ok, Err}
 use Rattle.std.specs.Float.{binary64}
 use Rattle.std.specs.Float.Ieee.{of_int, to_bits, le}
 use Rattle.float.specs.Rounded.{bits, one, ◌⊕◌, ◌⊖◌, ◌⊗◌, ◌⊘◌}
-use Rattle.float.specs.Answer.{answered}
-use Rattle.float.specs.declared.FloatAnswer.{FloatAnswer}
+use Rattle.refusal.specs.declared.Refusal.{Refusal}
+use Rattle.refusal.specs.declared.Refusal.TheVariants.{NoLogarithm}
 
 -- ---- the coefficients of fdlibm's e_log.c
 
@@ -60,10 +60,10 @@ logarithm_of_bits n =
 
 -- ---- the argument: positive, normal, finite
 
--- and so from the smallest normal number to the largest finite one; any other gets 0.0 beside the number 6
-unfoldable pub logarithm : Float → FloatAnswer
+-- and so from the smallest normal number to the largest finite one; any other has no logarithm here
+unfoldable pub logarithm : Float → Result Float Refusal
 unfolding logarithm_of_bits
 logarithm x =
-    cond (le (bits 0x0010000000000000) x && le x (bits 0x7FEFFFFFFFFFFFFF))
-    (answered (logarithm_of_bits (to_bits binary64 x)))
-    (record { value = bits 0; refusal = 6 })
+    if le (bits 0x0010000000000000) x && le x (bits 0x7FEFFFFFFFFFFFFF)
+    then Ok (logarithm_of_bits (to_bits binary64 x))
+    else Err NoLogarithm

@@ -1,5 +1,5 @@
 -- Powers by document 01's steps, and the weights ("Logarithm and powers"). Definitions only.
-use Rattle.std.specs.Prelude.{ℕ, zero, suc, ◌/◌, ◌%◌, Bool, true, false, cond, eqb, ltb, Float}
+use Rattle.std.specs.Prelude.{ℕ, zero, suc, ◌/◌, ◌%◌, Bool, true, false, if◌then◌else◌, ◌==◌, nat_lt, Float}
 use Rattle.float.specs.Rounded.{bits, one, ◌⊗◌}
 
 -- While n is not 0: if n is odd, answer × base; halve n; if n is not 0, square the base.
@@ -8,13 +8,13 @@ unfoldable pub power_steps : ℕ → Bool → Float → Float → ℕ → Float
 power_steps zero done answer base n = answer
 power_steps (suc turns) true answer base n = answer
 power_steps (suc turns) false answer base n =
-    let none = eqb (n / 2) 0 in
-    power_steps turns none (cond (eqb (n % 2) 1) (answer ⊗ base) answer) (cond none base (base ⊗ base)) (n / 2)
+    let none = n / 2 == 0 in
+    power_steps turns none (if n % 2 == 1 then answer ⊗ base else answer) (if none then base else base ⊗ base) (n / 2)
 
 -- base to the power n: answer 1 at the start
 unfoldable pub power : Float → ℕ → Float
 unfolding power_steps
-power base n = power_steps n (eqb n 0) one base n
+power base n = power_steps n (n == 0) one base n
 
 abbrev pub ninetenths : Float
 ninetenths = bits 0x3FECCCCCCCCCCCCD
@@ -22,4 +22,4 @@ ninetenths = bits 0x3FECCCCCCCCCCCCD
 -- The weight of an age is a power of 0.9. The window holds fifteen; any other age weighs nothing
 unfoldable pub weight : ℕ → Float
 unfolding power
-weight age = cond (ltb age 15) (power ninetenths age) (bits 0)
+weight age = if nat_lt age 15 then power ninetenths age else bits 0

@@ -4,9 +4,9 @@
 
 ghost use Rattle.std.specs.Prelude.{◌≡◌};
 ghost use Rattle.logarithm.specs.Ln.{logarithm, logarithm_of_bits};
-ghost use Rattle.logarithm.specs.Power.{power, weight as weightOf};
+ghost use Rattle.logarithm.specs.Power.{power, weight};
 
-use float::FloatAnswer;
+use refusal::Refusal;
 
 // The coefficients of fdlibm's e_log.c; the bits stand beside.
 const LN2_HI: f64 = 0.6931471803691238; // 3FE62E42FEE00000
@@ -27,36 +27,29 @@ const L6: f64 = 0.15313837699209373; // 3FC39A09D078C69F
 
 const L7: f64 = 0.14798198605116586; // 3FC2F112DF3E5244
 
-const SMALLEST_NORMAL: f64 = 2.2250738585072014e-308;
-
-const LARGEST_FINITE: f64 = 1.7976931348623157e308;
-
 // A bit pattern's halves, and the fields of the upper one: each is a quotient or a remainder.
 const TWO_20: u64 = 0x10_0000;
 
 const TWO_32: u64 = 0x1_0000_0000;
 
-// The natural logarithm of a positive, normal, finite number; refusal 6 for any other.
-pub fn ln(x: f64) -> FloatAnswer
+// The natural logarithm of a positive, normal, finite number.
+#[tactic(auto, unfolding(crate::specs::Ln::logarithm))]
+pub fn ln(x: f64) -> Result<f64, Refusal>
     ensures { result ≡ logarithm x }
 {
-    if x >= SMALLEST_NORMAL {
-        if x <= LARGEST_FINITE {
-            let value = ln_of_bits(float::to_bits(x));
-            return FloatAnswer { value, refusal: 0 };
-        }
-    }
-    FloatAnswer {
-        value: 0.0,
-        refusal: 6,
+    if f64::MIN_POSITIVE <= x && x <= f64::MAX {
+        Ok(ln_of_bits(float::to_bits(x)))
+    } else {
+        Err(Refusal::NoLogarithm)
     }
 }
 
+#[tactic(auto, unfolding(crate::specs::Ln::logarithm_of_bits))]
 fn ln_of_bits(bits: u64) -> f64
     ensures { result ≡ logarithm_of_bits bits }
 {
     let h = bits / TWO_32 + 0x9_5F62;
-    let k = (h / TWO_20) as f64 - 1023.0;
+    let k = ((h / TWO_20) as i64 - 1023) as f64;
     let upper = h % TWO_20 + 0x3FE6_A09E;
     let reduced = float::from_bits(upper * TWO_32 + bits % TWO_32);
     let f = reduced - 1.0;
@@ -71,6 +64,7 @@ fn ln_of_bits(bits: u64) -> f64
 }
 
 // base to the power n.
+#[tactic(auto, using(crate::proofs::Steps::turn, crate::proofs::Steps::done), unfolding(crate::specs::Power::power))]
 pub fn powi(base: f64, n: u32) -> f64
     ensures { result ≡ power base n }
 {
@@ -79,11 +73,11 @@ pub fn powi(base: f64, n: u32) -> f64
     let mut n = n;
     while n != 0 {
         if n % 2 == 1 {
-            answer = answer * base;
+            answer *= base;
         }
         n /= 2;
         if n != 0 {
-            base = base * base;
+            base *= base;
         }
     }
     answer
@@ -110,10 +104,7 @@ const WEIGHTS: [f64; 15] = [
 
 // The weight of an observation of this age; one that the window no longer holds has none.
 pub fn weight(age: u64) -> f64
-    ensures { result ≡ weightOf age }
+    ensures { result ≡ weight age }
 {
-    if age < 15 {
-        return WEIGHTS[age as usize];
-    }
-    0.0
+    if age < 15 { WEIGHTS[age as usize] } else { 0.0 }
 }

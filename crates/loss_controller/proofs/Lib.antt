@@ -1,2 +1,3 @@
 pub mod Summaries
 pub mod LogarithmsTaken
+mod Examples

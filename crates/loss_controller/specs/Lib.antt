@@ -3,4 +3,3 @@ pub mod Setters
 pub mod Report
 pub mod Result
 pub mod Starred
-mod Examples

@@ -1,8 +1,11 @@
 -- One report, in order (document 01; `update_bandwidth_estimate`). Definitions only.
-use Rattle.std.specs.Prelude.{ℕ, Bool, cond, ◌&&◌, List, eqb, Float}
+use Rattle.std.specs.Prelude.{ℕ, Bool, ◌&&◌, if◌then◌else◌, List, Result, Ok, Err, ◌==◌, Float}
 use Rattle.std.specs.Float.Ieee.Scale.{finite}
+use Rattle.refusal.specs.Outcome.{and_then}
+use Rattle.refusal.specs.declared.Refusal.{Refusal}
+use Rattle.refusal.specs.declared.Refusal.TheVariants.{TooManyPackets}
 use Rattle.bandwidth.specs.declared.Bitrate.{Bitrate}
-use Rattle.packets.specs.Summary.{columns_refusal, summary_of, is_of_report}
+use Rattle.packets.specs.Summary.{check_columns, summary_of, is_of_report}
 use Rattle.packets.specs.declared.PacketResultsSummary.{PacketResultsSummary}
 use Rattle.observation.specs.Ratio as Ratio
 use Rattle.observation.specs.Rows as Rows
@@ -13,12 +16,10 @@ use Rattle.candidates.specs.Choice as Choice
 use Rattle.candidates.specs.declared.Bounds.{Bounds}
 use Rattle.estimator.specs.State.{is_limited_due_to_loss}
 use Rattle.estimator.specs.Update as Update
-use Rattle.estimator.specs.declared.EstimatorAnswer.{EstimatorAnswer}
+use Rattle.estimator.specs.declared.Estimator.{Estimator}
 use Rattle.estimator.specs.declared.Report.{Report}
-use Rattle.loss_controller.specs.Controller.{answered, refused, checked, with_observations, with_estimator, with_inputs}
-use Rattle.loss_controller.specs.Setters.{rate_refusal, time_refusal, is_in_alr}
+use Rattle.loss_controller.specs.Setters.{check_rate, check_time, is_in_alr}
 use Rattle.loss_controller.specs.declared.LossController.{LossController}
-use Rattle.loss_controller.specs.declared.ControllerAnswer.{ControllerAnswer}
 
 -- ---- steps 3 to 5, once an observation is complete: c has it
 
@@ -47,21 +48,16 @@ report c ratio =
     }
 
 -- candidates, choice, then limits, hold and state; the first refusal in this order
-unfoldable pub updated_estimator : LossController → EstimatorAnswer
+unfoldable pub updated_estimator : LossController → Result Estimator Refusal
 updated_estimator c =
-    let e = c.estimator in
-    let current = e.current_estimate in
-    let rows = Rows.rows c.observations in
-    let ratio = Ratio.average_reported_loss_ratio c.observations in
-    let choice =
-    Choice.choice c.observations.use_byte_loss_ratio current (Candidate.candidates current (bounds c)) rows.rows ratio.value in
-    cond (eqb rows.refusal 0)
-    (cond (eqb ratio.refusal 0)
-    (cond (eqb choice.refusal 0)
-    (Update.applied e choice.best (report c ratio.value))
-    (Update.unchanged e choice.refusal))
-    (Update.unchanged e ratio.refusal))
-    (Update.unchanged e rows.refusal)
+    let current = c.estimator.current_estimate in
+    let candidates = Candidate.candidates current (bounds c) in
+    and_then (Rows.rows c.observations)
+    (λ rows.
+    and_then (Ratio.average_reported_loss_ratio c.observations)
+    (λ ratio.
+    and_then (Choice.choice c.observations.use_byte_loss_ratio current candidates rows ratio)
+    (λ best. Update.applied c.estimator best (report c ratio))))
 
 -- ---- steps 1 and 2
 
@@ -69,45 +65,36 @@ updated_estimator c =
 unfoldable pub has_valid_estimate : LossController → Bool
 has_valid_estimate c = finite c.estimator.current_estimate.loss_limited_bandwidth.bps
 
--- from the controller c: the estimate anew where the observation is complete
-unfoldable pub observed : LossController → LossController → Bool → ControllerAnswer
-observed c new completed =
-    let updated = updated_estimator new in
-    cond (completed && has_valid_estimate new) (checked c updated.refusal (answered (with_estimator new updated.estimator))) (answered new)
+-- the estimate anew where the observation is complete
+unfoldable pub observed : LossController → Bool → Result LossController Refusal
+observed c completed =
+    if completed && has_valid_estimate c
+    then and_then (updated_estimator c) (λ e. Ok (record c { estimator = e }))
+    else Ok c
 
 -- the delay estimate is stored
 unfoldable pub with_delay_based_estimate : LossController → Bitrate → LossController
-with_delay_based_estimate c delay =
-    with_inputs c
-    (record {
-      acknowledged_bitrate = c.inputs.acknowledged_bitrate;
-      delay_based_estimate = delay;
-      alr_start_time = c.inputs.alr_start_time;
-      link_capacity_estimate = c.inputs.link_capacity_estimate;
-    })
+with_delay_based_estimate c delay = record c { inputs = record c.inputs { delay_based_estimate = delay } }
 
 -- "An empty report stores the delay estimate and does no more."
-unfoldable pub reported : LossController → PacketResultsSummary → Bitrate → ControllerAnswer
+unfoldable pub reported : LossController → PacketResultsSummary → Bitrate → Result LossController Refusal
 reported c s delay =
     let stored = with_delay_based_estimate c delay in
-    let added = Window.added c.observations s in
-    cond (eqb s.num_packets 0) (answered stored)
-    (checked c added.refusal (observed c (with_observations stored added.observations) added.completed))
+    if s.num_packets == 0
+    then Ok stored
+    else and_then (Window.added c.observations s) (λ added. observed (record stored { observations = added.observations }) added.completed)
 
 -- ---- the call
 
 -- "A report checks 4, 5, 2, then each packet's 3, 17 and 8, then 10, 11", which are `Window.added`'s
-unfoldable pub update_bandwidth_estimate : LossController → List ℕ → List ℕ → List ℕ → Bitrate → ControllerAnswer
+unfoldable pub update_bandwidth_estimate : LossController → List ℕ → List ℕ → List ℕ → Bitrate → Result LossController Refusal
 update_bandwidth_estimate c times sizes flags delay =
-    let summary = summary_of times sizes flags in
-    checked c (columns_refusal times sizes flags)
-    (checked c (rate_refusal delay)
-    (checked c summary.refusal (reported c summary.summary delay)))
+    and_then (check_columns times sizes flags)
+    (λ _. and_then (check_rate delay) (λ _. and_then (summary_of times sizes flags) (λ summary. reported c summary delay)))
 
 -- of packets that are summed up already: 5 for totals that no report of at most 4,096 packets has, 2, 3, then 10, 11
-unfoldable pub update_with_summary : LossController → PacketResultsSummary → Bitrate → ControllerAnswer
+unfoldable pub update_with_summary : LossController → PacketResultsSummary → Bitrate → Result LossController Refusal
 update_with_summary c s delay =
-    cond (is_of_report s)
-    (checked c (rate_refusal delay)
-    (checked c (time_refusal s.last_send_time) (reported c s delay)))
-    (refused c 5)
+    if is_of_report s
+    then and_then (check_rate delay) (λ _. and_then (check_time s.last_send_time) (λ _. reported c s delay))
+    else Err TooManyPackets

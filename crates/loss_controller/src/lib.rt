@@ -1,26 +1,19 @@
-// `LossController` of src/bwe/loss_controller.rs, its calls by value. A call that is refused hands
-// the controller back as it was.
+// `LossController` of src/bwe/loss_controller.rs, its calls by value. A call that is refused answers
+// the refusal alone: the caller has the controller as it was.
 #![tactic(auto)]
 
 ghost use Rattle.std.specs.Prelude.{◌≡◌, true};
 ghost use Rattle.loss_controller.specs.Controller as Controller;
 ghost use Rattle.loss_controller.specs.Setters as Setters;
 ghost use Rattle.loss_controller.specs.Report as Steps;
-ghost use Rattle.loss_controller.specs.Result as Result;
+ghost use Rattle.loss_controller.specs.Result as Read;
 
-use bandwidth::{Bitrate, OptionBitrate};
+use bandwidth::Bitrate;
 use candidates::Bounds;
-use estimator::{Estimator, EstimatorAnswer, LossControllerState, Report};
-use float::FloatAnswer;
+use estimator::{Estimator, LossControllerState, Report};
 use observation::Observations;
 use packets::{PacketResultsSummary, PacketSize};
-
-// Option<Instant>
-#[derive(Clone, Copy)]
-pub enum OptionInstant {
-    Some(u64),
-    None,
-}
+use refusal::Refusal;
 
 // What the controller is told by others
 #[derive(Clone, Copy)]
@@ -28,9 +21,9 @@ pub struct Inputs {
     pub acknowledged_bitrate: Bitrate,
     pub delay_based_estimate: Bitrate,
     // None if not in ALR. Whether it was in ALR is read from here too.
-    pub alr_start_time: OptionInstant,
+    pub alr_start_time: Option<u64>,
     // From probes during ALR
-    pub link_capacity_estimate: OptionBitrate,
+    pub link_capacity_estimate: Option<Bitrate>,
 }
 
 #[derive(Clone, Copy)]
@@ -40,73 +33,32 @@ pub struct LossController {
     pub inputs: Inputs,
 }
 
-// The controller after a call, and the number of the refusal: 0 if there is none, and the controller
-// as it was beside any other.
-#[derive(Clone, Copy)]
-pub struct ControllerAnswer {
-    pub controller: LossController,
-    pub refusal: u8,
-}
-
 #[derive(Clone, Copy)]
 pub struct LossBasedBweResult {
-    pub bandwidth_estimate: OptionBitrate,
+    pub bandwidth_estimate: Option<Bitrate>,
     pub state: LossControllerState,
 }
 
-impl OptionInstant {
-    fn is_some(self) -> bool
-        ensures { result ≡ Setters.is_some self }
-    {
-        match self {
-            OptionInstant::Some(_) => true,
-            OptionInstant::None => false,
-        }
-    }
-
-    // 3 for a time above 4 * 10^18 ns.
-    fn refusal(self) -> u8
-        ensures { result ≡ Setters.start_refusal self }
-    {
-        match self {
-            OptionInstant::Some(start) => time_refusal(start),
-            OptionInstant::None => 0,
-        }
-    }
-}
-
-pub fn time_refusal(time: u64) -> u8
-    ensures { result ≡ Setters.time_refusal time }
+// Refused above 4 * 10^18 ns.
+#[tactic(auto, unfolding(crate::specs::Setters::check_time))]
+pub fn check_time(time: u64) -> Result<(), Refusal>
+    ensures { result ≡ Setters.check_time time }
 {
     if time > packets::LATEST_TIME {
-        return 3;
+        return Err(Refusal::Time);
     }
-    0
+    Ok(())
 }
 
-// 2 for a finite rate with its sign bit set or above 10^15.
-pub fn rate_refusal(rate: Bitrate) -> u8
-    ensures { result ≡ Setters.rate_refusal rate }
+// Refused where it is finite, and has its sign bit set or is above 10^15.
+#[tactic(auto, using(float::proofs::Std::partial_gt_is), unfolding(crate::specs::Setters::check_rate))]
+pub fn check_rate(rate: Bitrate) -> Result<(), Refusal>
+    ensures { result ≡ Setters.check_rate rate }
 {
-    if !rate.is_valid() {
-        return 0;
+    if rate.is_valid() && (float::is_sign_negative(rate.bps) || rate > Bitrate::MOST) {
+        return Err(Refusal::Rate);
     }
-    if float::is_sign_negative(rate.bps) {
-        return 2;
-    }
-    if rate.gt(Bitrate::MOST) {
-        return 2;
-    }
-    0
-}
-
-fn capacity_refusal(capacity: OptionBitrate) -> u8
-    ensures { result ≡ Setters.capacity_refusal capacity }
-{
-    match capacity {
-        OptionBitrate::Some(rate) => rate_refusal(rate),
-        OptionBitrate::None => 0,
-    }
+    Ok(())
 }
 
 impl LossController {
@@ -119,6 +71,7 @@ impl LossController {
 
     // Whether loss is counted in bytes or in packets is fixed here. The Rust has the setting, and no
     // way to make a controller with another value of it.
+    #[tactic(auto, using(float::proofs::Std::infinity_is))]
     pub fn with_profile(use_byte_loss_ratio: bool) -> LossController
         ensures { result ≡ Controller.initial use_byte_loss_ratio }
     {
@@ -126,168 +79,93 @@ impl LossController {
             observations: Observations::new(use_byte_loss_ratio),
             estimator: Estimator::new(),
             inputs: Inputs {
-                acknowledged_bitrate: Bitrate::infinity(),
-                delay_based_estimate: Bitrate::infinity(),
-                alr_start_time: OptionInstant::None,
-                link_capacity_estimate: OptionBitrate::None,
+                acknowledged_bitrate: Bitrate::INFINITY,
+                delay_based_estimate: Bitrate::INFINITY,
+                alr_start_time: None,
+                link_capacity_estimate: None,
             },
-        }
-    }
-
-    fn answered(self) -> ControllerAnswer
-        ensures { result ≡ Controller.answered self }
-    {
-        ControllerAnswer {
-            controller: self,
-            refusal: 0,
-        }
-    }
-
-    fn refused(self, refusal: u8) -> ControllerAnswer
-        ensures { result ≡ Controller.refused self refusal }
-    {
-        ControllerAnswer {
-            controller: self,
-            refusal,
         }
     }
 
     // ---- the four setters
 
     // Override the current bandwidth estimate.
-    pub fn set_bandwidth_estimate(self, bandwidth_estimate: Bitrate) -> ControllerAnswer
+    #[tactic(auto, unfolding(crate::specs::Setters::set_bandwidth_estimate))]
+    pub fn set_bandwidth_estimate(
+        self,
+        bandwidth_estimate: Bitrate,
+    ) -> Result<LossController, Refusal>
         ensures { result ≡ Setters.set_bandwidth_estimate self bandwidth_estimate }
     {
-        let refusal = rate_refusal(bandwidth_estimate);
-        if refusal != 0 {
-            return self.refused(refusal);
-        }
-        let mut estimator = self.estimator;
-        let mut current_estimate = estimator.current_estimate;
-        current_estimate.loss_limited_bandwidth = bandwidth_estimate;
-        estimator.current_estimate = current_estimate;
-        let controller = self.with_estimator(estimator);
-        controller.answered()
+        check_rate(bandwidth_estimate)?;
+        let mut controller = self;
+        controller.estimator.current_estimate.loss_limited_bandwidth = bandwidth_estimate;
+        Ok(controller)
     }
 
     // Update the acknowledged bitrate based on TWCC feedback.
-    pub fn set_acknowledged_bitrate(self, acknowledged_bitrate: Bitrate) -> ControllerAnswer
+    #[tactic(auto, unfolding(crate::specs::Setters::set_acknowledged_bitrate))]
+    pub fn set_acknowledged_bitrate(
+        self,
+        acknowledged_bitrate: Bitrate,
+    ) -> Result<LossController, Refusal>
         ensures { result ≡ Setters.set_acknowledged_bitrate self acknowledged_bitrate }
     {
-        let refusal = rate_refusal(acknowledged_bitrate);
-        if refusal != 0 {
-            return self.refused(refusal);
-        }
-        let mut inputs = self.inputs;
-        inputs.acknowledged_bitrate = acknowledged_bitrate;
-        let controller = self.with_inputs(inputs);
-        controller.answered()
+        check_rate(acknowledged_bitrate)?;
+        let mut controller = self;
+        controller.inputs.acknowledged_bitrate = acknowledged_bitrate;
+        Ok(controller)
     }
 
     // Set ALR start time from the ALR detector. Where ALR goes on or off the observations are
     // reset, so as not to mix the two kinds of traffic in one window.
-    pub fn set_alr_start_time(self, alr_start: OptionInstant) -> ControllerAnswer
+    #[tactic(auto, unfolding(crate::specs::Setters::set_alr_start_time, crate::specs::Setters::check_start, crate::specs::Setters::with_alr_start_time))]
+    pub fn set_alr_start_time(self, alr_start: Option<u64>) -> Result<LossController, Refusal>
         ensures { result ≡ Setters.set_alr_start_time self alr_start }
     {
-        let refusal = alr_start.refusal();
-        if refusal != 0 {
-            return self.refused(refusal);
+        if let Some(start) = alr_start {
+            check_time(start)?;
         }
         let was_in_alr = self.is_in_alr();
         let is_in_alr = alr_start.is_some();
-        let controller = self.with_alr_start_time(alr_start);
-        if was_in_alr == is_in_alr {
-            return controller.answered();
+        let mut controller = self;
+        controller.inputs.alr_start_time = alr_start;
+        if was_in_alr != is_in_alr {
+            return Ok(controller.reset_observations());
         }
-        let reset = controller.reset_observations();
-        reset.answered()
+        Ok(controller)
     }
 
     // Set link capacity estimate from successful ALR probes.
-    pub fn set_link_capacity_estimate(self, capacity: OptionBitrate) -> ControllerAnswer
+    #[tactic(auto, unfolding(crate::specs::Setters::set_link_capacity_estimate, crate::specs::Setters::check_capacity))]
+    pub fn set_link_capacity_estimate(
+        self,
+        capacity: Option<Bitrate>,
+    ) -> Result<LossController, Refusal>
         ensures { result ≡ Setters.set_link_capacity_estimate self capacity }
     {
-        let refusal = capacity_refusal(capacity);
-        if refusal != 0 {
-            return self.refused(refusal);
+        if let Some(rate) = capacity {
+            check_rate(rate)?;
         }
-        let inputs = self.inputs;
-        let acknowledged_bitrate = inputs.acknowledged_bitrate;
-        let delay_based_estimate = inputs.delay_based_estimate;
-        let alr_start_time = inputs.alr_start_time;
-        let controller = self.with_inputs(Inputs {
-            acknowledged_bitrate,
-            delay_based_estimate,
-            alr_start_time,
-            link_capacity_estimate: capacity,
-        });
-        controller.answered()
+        let mut controller = self;
+        controller.inputs.link_capacity_estimate = capacity;
+        Ok(controller)
     }
 
     // Check if currently in ALR state
     fn is_in_alr(self) -> bool
         ensures { result ≡ Setters.is_in_alr self }
     {
-        let inputs = self.inputs;
-        let alr_start_time = inputs.alr_start_time;
-        alr_start_time.is_some()
+        self.inputs.alr_start_time.is_some()
     }
 
-    fn with_alr_start_time(self, alr_start: OptionInstant) -> LossController
-        ensures { result ≡ Setters.with_alr_start_time self alr_start }
-    {
-        let inputs = self.inputs;
-        let acknowledged_bitrate = inputs.acknowledged_bitrate;
-        let delay_based_estimate = inputs.delay_based_estimate;
-        let link_capacity_estimate = inputs.link_capacity_estimate;
-        self.with_inputs(Inputs {
-            acknowledged_bitrate,
-            delay_based_estimate,
-            alr_start_time: alr_start,
-            link_capacity_estimate,
-        })
-    }
-
+    #[tactic(auto, unfolding(crate::specs::Setters::reset_observations))]
     fn reset_observations(self) -> LossController
         ensures { result ≡ Setters.reset_observations self }
     {
-        let observations = self.observations;
-        self.with_observations(observations.reset())
-    }
-
-    fn with_inputs(self, inputs: Inputs) -> LossController
-        ensures { result ≡ Controller.with_inputs self inputs }
-    {
-        let observations = self.observations;
-        let estimator = self.estimator;
         LossController {
-            observations,
-            estimator,
-            inputs,
-        }
-    }
-
-    fn with_observations(self, observations: Observations) -> LossController
-        ensures { result ≡ Controller.with_observations self observations }
-    {
-        let estimator = self.estimator;
-        let inputs = self.inputs;
-        LossController {
-            observations,
-            estimator,
-            inputs,
-        }
-    }
-
-    fn with_estimator(self, estimator: Estimator) -> LossController
-        ensures { result ≡ Controller.with_estimator self estimator }
-    {
-        let observations = self.observations;
-        let inputs = self.inputs;
-        LossController {
-            observations,
-            estimator,
-            inputs,
+            observations: self.observations.reset(),
+            ..self
         }
     }
 
@@ -295,235 +173,169 @@ impl LossController {
 
     // Update the estimate using TWCC feedback from the network: the packets in three columns, and
     // the estimate of the delay controller.
+    #[tactic(auto, unfolding(crate::specs::Report::update_bandwidth_estimate))]
     pub fn update_bandwidth_estimate(
         self,
         times: &[u64],
         sizes: &[PacketSize],
         flags: &[u8],
         delay_based_estimated: Bitrate,
-    ) -> ControllerAnswer
+    ) -> Result<LossController, Refusal>
         ensures { result ≡ Steps.update_bandwidth_estimate self times.now sizes.now flags.now delay_based_estimated }
     {
-        let refusal = packets::columns_refusal(times, sizes, flags);
-        if refusal != 0 {
-            return self.refused(refusal);
-        }
-        let refusal = rate_refusal(delay_based_estimated);
-        if refusal != 0 {
-            return self.refused(refusal);
-        }
-        let summary = packets::summary(times, sizes, flags);
-        let refusal = summary.refusal;
-        if refusal != 0 {
-            return self.refused(refusal);
-        }
-        self.reported(summary.summary, delay_based_estimated)
+        packets::check_columns(times, sizes, flags)?;
+        check_rate(delay_based_estimated)?;
+        let summary = packets::summary(times, sizes, flags)?;
+        self.reported(summary, delay_based_estimated)
     }
 
-    // The same, of packets that are summed up already: 5 for totals that no report has.
+    // The same, of packets that are summed up already; totals that no report has are refused as too
+    // many packets.
+    #[tactic(auto, unfolding(crate::specs::Report::update_with_summary))]
     pub fn update_with_summary(
         self,
         summary: PacketResultsSummary,
         delay_based_estimated: Bitrate,
-    ) -> ControllerAnswer
+    ) -> Result<LossController, Refusal>
         ensures { result ≡ Steps.update_with_summary self summary delay_based_estimated }
     {
         if !summary.is_of_report() {
-            return self.refused(5);
+            return Err(Refusal::TooManyPackets);
         }
-        let refusal = rate_refusal(delay_based_estimated);
-        if refusal != 0 {
-            return self.refused(refusal);
-        }
-        let refusal = time_refusal(summary.last_send_time);
-        if refusal != 0 {
-            return self.refused(refusal);
-        }
+        check_rate(delay_based_estimated)?;
+        check_time(summary.last_send_time)?;
         self.reported(summary, delay_based_estimated)
     }
 
     // The steps, once packets and delay estimate are taken.
+    #[tactic(auto, unfolding(crate::specs::Report::reported, crate::specs::Report::observed, crate::specs::Report::with_delay_based_estimate, crate::specs::Report::has_valid_estimate))]
     fn reported(
         self,
         summary: PacketResultsSummary,
         delay_based_estimated: Bitrate,
-    ) -> ControllerAnswer
+    ) -> Result<LossController, Refusal>
         ensures { result ≡ Steps.reported self summary delay_based_estimated }
     {
-        let mut inputs = self.inputs;
-        inputs.delay_based_estimate = delay_based_estimated;
-        let controller = self.with_inputs(inputs);
+        let mut controller = self;
+        controller.inputs.delay_based_estimate = delay_based_estimated;
         if summary.num_packets == 0 {
-            return controller.answered();
+            return Ok(controller);
         }
-        let observations = self.observations;
-        let added = observations.maybe_add_observation(summary);
-        let refusal = added.refusal;
-        if refusal != 0 {
-            return self.refused(refusal);
-        }
-        let observed = controller.with_observations(added.observations);
-        if !added.completed {
-            return observed.answered();
-        }
+        let added = self.observations.maybe_add_observation(summary)?;
+        controller.observations = added.observations;
+        let current = self.estimator.current_estimate.loss_limited_bandwidth;
         // The estimator must be initialized before use.
-        if !observed.has_valid_estimate() {
-            return observed.answered();
+        if !added.completed || !current.is_valid() {
+            return Ok(controller);
         }
-        let updated = observed.updated_estimator();
-        let refusal = updated.refusal;
-        if refusal != 0 {
-            return self.refused(refusal);
-        }
-        let finished = observed.with_estimator(updated.estimator);
-        finished.answered()
-    }
-
-    fn has_valid_estimate(self) -> bool
-        ensures { result ≡ Steps.has_valid_estimate self }
-    {
-        let estimator = self.estimator;
-        let current_estimate = estimator.current_estimate;
-        current_estimate.loss_limited_bandwidth.is_valid()
+        controller.estimator = controller.updated_estimator()?;
+        Ok(controller)
     }
 
     // The candidates, the best of them, and what follows from it.
-    fn updated_estimator(self) -> EstimatorAnswer
+    #[tactic(auto, unfolding(crate::specs::Report::updated_estimator))]
+    fn updated_estimator(self) -> Result<Estimator, Refusal>
         ensures { result ≡ Steps.updated_estimator self }
     {
-        let observations = self.observations;
-        let estimator = self.estimator;
-        let current_estimate = estimator.current_estimate;
-        let rows = observations.rows();
-        let refusal = rows.refusal;
-        if refusal != 0 {
-            return EstimatorAnswer { estimator, refusal };
-        }
-        let ratio = observations.average_reported_loss_ratio();
-        let refusal = ratio.refusal;
-        if refusal != 0 {
-            return EstimatorAnswer { estimator, refusal };
-        }
-        let window = rows.rows;
-        let candidates = candidates::get_candidates(current_estimate, self.bounds());
-        let choice = candidates::choose(
-            observations.use_byte_loss_ratio,
+        let rows = self.observations.rows()?;
+        let ratio = self.observations.average_reported_loss_ratio()?;
+        let current_estimate = self.estimator.current_estimate;
+        let best_candidate = candidates::choose(
+            self.observations.use_byte_loss_ratio,
             current_estimate,
-            candidates,
-            window,
-            ratio.value,
-        );
-        let refusal = choice.refusal;
-        if refusal != 0 {
-            return EstimatorAnswer { estimator, refusal };
-        }
-        estimator.apply_best_candidate(choice.best, self.report(ratio.value))
+            candidates::get_candidates(current_estimate, self.bounds()),
+            rows,
+            ratio,
+        )?;
+        self.estimator
+            .apply_best_candidate(best_candidate, self.report(ratio))
     }
 
     // What the candidates' upper bound reads.
+    #[tactic(auto, unfolding(crate::specs::Report::bounds))]
     fn bounds(self) -> Bounds
         ensures { result ≡ Steps.bounds self }
     {
-        let observations = self.observations;
         let estimator = self.estimator;
-        let state = estimator.state;
-        let recovery = estimator.recovery;
         let inputs = self.inputs;
-        let link_capacity_estimate = inputs.link_capacity_estimate;
-        let last_send_time = observations.last_send_time_most_recent_observation;
-        let last_time_estimate_reduced = estimator.last_time_estimate_reduced;
-        let bandwidth_limit_in_current_window = recovery.bandwidth_limit_in_current_window;
-        let delay_based_estimate = inputs.delay_based_estimate;
-        let acknowledged_bitrate = inputs.acknowledged_bitrate;
         Bounds {
-            capacity: candidates::link_capacity_bound(self.is_in_alr(), link_capacity_estimate),
-            is_limited: state.is_bandwidth_limited_due_to_loss(),
-            bandwidth_limit_in_current_window,
-            instant_upper_bound: observations.get_instant_upper_bound(),
-            delay_based_estimate,
-            acknowledged_bitrate,
-            last_send_time,
-            last_time_estimate_reduced,
+            capacity: candidates::link_capacity_bound(
+                self.is_in_alr(),
+                inputs.link_capacity_estimate,
+            ),
+            is_limited: estimator.state.is_bandwidth_limited_due_to_loss(),
+            bandwidth_limit_in_current_window: estimator.recovery.bandwidth_limit_in_current_window,
+            instant_upper_bound: self.observations.get_instant_upper_bound(),
+            delay_based_estimate: inputs.delay_based_estimate,
+            acknowledged_bitrate: inputs.acknowledged_bitrate,
+            last_send_time: self.observations.last_send_time_most_recent_observation,
+            last_time_estimate_reduced: estimator.last_time_estimate_reduced,
         }
     }
 
     // What the steps after the choice read.
+    #[tactic(auto, unfolding(crate::specs::Report::report))]
     fn report(self, average_reported_loss_ratio: f64) -> Report
         ensures { result ≡ Steps.report self average_reported_loss_ratio }
     {
-        let observations = self.observations;
-        let inputs = self.inputs;
-        let last_send_time = observations.last_send_time_most_recent_observation;
-        let acknowledged_bitrate = inputs.acknowledged_bitrate;
-        let delay_based_estimate = inputs.delay_based_estimate;
         Report {
             average_reported_loss_ratio,
-            acknowledged_bitrate,
-            delay_based_estimate,
-            last_send_time,
+            acknowledged_bitrate: self.inputs.acknowledged_bitrate,
+            delay_based_estimate: self.inputs.delay_based_estimate,
+            last_send_time: self.observations.last_send_time_most_recent_observation,
         }
     }
 
     // ---- the reads
 
+    #[tactic(auto, unfolding(crate::specs::Result::loss_based_result))]
     pub fn loss_based_result(self) -> LossBasedBweResult
-        ensures { result ≡ Result.loss_based_result self }
+        ensures { result ≡ Read.loss_based_result self }
     {
-        let estimator = self.estimator;
-        let state = estimator.state;
-        let bandwidth_estimate = self.published();
         LossBasedBweResult {
-            bandwidth_estimate,
-            state,
+            bandwidth_estimate: self.published(),
+            state: self.estimator.state,
         }
     }
 
     // The estimate, limited once there are observations.
-    fn published(self) -> OptionBitrate
-        ensures { result ≡ Result.published self }
+    #[tactic(auto, unfolding(crate::specs::Result::published, candidates::specs::Bound::at_most, bandwidth::specs::Rate::valid))]
+    fn published(self) -> Option<Bitrate>
+        ensures { result ≡ Read.published self }
     {
-        let estimator = self.estimator;
-        let current_estimate = estimator.current_estimate;
-        let loss_limited_bandwidth = current_estimate.loss_limited_bandwidth;
-        if !loss_limited_bandwidth.is_valid() {
-            return OptionBitrate::None;
+        let current_estimate = self.estimator.current_estimate;
+        let loss_limited_bandwidth = current_estimate.loss_limited_bandwidth.as_valid()?;
+        if self.observations.num_observations == 0 {
+            return Some(loss_limited_bandwidth);
         }
-        let observations = self.observations;
-        if observations.num_observations == 0 {
-            return OptionBitrate::Some(loss_limited_bandwidth);
-        }
-        let instant_upper_bound = observations.get_instant_upper_bound();
-        let inputs = self.inputs;
-        let delay_based_estimate = inputs.delay_based_estimate;
+        let instant_upper_bound = self.observations.get_instant_upper_bound();
+        let delay_based_estimate = self.inputs.delay_based_estimate;
         if delay_based_estimate.is_valid() {
             let delay_limited = loss_limited_bandwidth.min(delay_based_estimate);
-            return OptionBitrate::Some(delay_limited.min(instant_upper_bound));
+            return Some(delay_limited.min(instant_upper_bound));
         }
-        OptionBitrate::Some(loss_limited_bandwidth.min(instant_upper_bound))
+        Some(loss_limited_bandwidth.min(instant_upper_bound))
     }
 
-    // Added by design: the loss ratio of the window. 7 where a size goes to no float.
-    pub fn average_reported_loss_ratio(self) -> FloatAnswer
-        ensures { result ≡ Result.average_reported_loss_ratio self }
+    // Added by design: the loss ratio of the window. Refused where a size goes to no float.
+    #[tactic(auto, unfolding(crate::specs::Result::average_reported_loss_ratio))]
+    pub fn average_reported_loss_ratio(self) -> Result<f64, Refusal>
+        ensures { result ≡ Read.average_reported_loss_ratio self }
     {
-        let observations = self.observations;
-        observations.average_reported_loss_ratio()
+        self.observations.average_reported_loss_ratio()
     }
 
     // Added by design: the count of completed observations.
     pub fn num_observations(self) -> u64
-        ensures { result ≡ Result.num_observations self }
+        ensures { result ≡ Read.num_observations self }
     {
-        let observations = self.observations;
-        observations.num_observations
+        self.observations.num_observations
     }
 
     // For an answer line.
     pub fn inherent_loss(self) -> f64
-        ensures { result ≡ Result.inherent_loss self }
+        ensures { result ≡ Read.inherent_loss self }
     {
-        let estimator = self.estimator;
-        let current_estimate = estimator.current_estimate;
-        current_estimate.inherent_loss
+        self.estimator.current_estimate.inherent_loss
     }
 }

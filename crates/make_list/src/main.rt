@@ -4,10 +4,10 @@
 #![tactic(auto)]
 
 ghost use Rattle.std.specs.Prelude.{◌≤◌, ◌≡◌, length};
-ghost use Rattle.call_line.specs.Write.{line_text, line_bytes, write_refusal};
+ghost use Rattle.call_line.specs.Write.{line_text, line_bytes, write_outcome};
 
 use call_line::{Call, LINE_WIDTH};
-use call_words::{Why, Words};
+use call_words::Why;
 use std::io::Read;
 
 // The bytes of a read
@@ -118,12 +118,12 @@ fn make_line(rt: HostRuntime, line: &[u8], number: u64) -> bool {
         return true;
     }
     match call_words::read_words(line) {
-        Words::Call(call) => {
+        Ok(Some(call)) => {
             let mut text = [0u8; LINE_WIDTH + 1];
             write_call(&rt, call, &mut text)
         }
-        Words::Nothing => true,
-        Words::Wrong(why) => {
+        Ok(None) => true,
+        Err(why) => {
             complain_of_words(&rt, number, why);
             true
         }
@@ -132,10 +132,10 @@ fn make_line(rt: HostRuntime, line: &[u8], number: u64) -> bool {
 
 // The text has room for the line and no more, and words say no call that is refused.
 fn write_call(rt: &impl Print, call: Call, text: &mut [u8]) -> bool
-    requires { (write_refusal call line_bytes ≡ 0) × (length text.old ≡ line_bytes) }
+    requires { (write_outcome call line_bytes ≡ Ok tt) × (length text.old ≡ line_bytes) }
     ensures { text.new ≡ line_text call }
 {
-    call_line::write_line(call, text);
+    call_line::write_line(call, text).unwrap();
     rt.write_all(text).is_ok()
 }
 

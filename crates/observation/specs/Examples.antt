@@ -1,14 +1,16 @@
 -- Worked examples of the definitions beside this file, by bit patterns, which antt computes. They test the definitions; no proof cites them.
 -- The floats expected are the Rust's.
-use Rattle.std.specs.Prelude.{◌≡◌, ℕ, ◌+◌, ◌-◌, ◌*◌, ◌%◌, Bool, true, false, List, [], ◌∷◌, map, take, refl}
+use Rattle.std.specs.Prelude.{◌≡◌, ℕ, ◌+◌, ◌-◌, ◌*◌, ◌%◌, Bool, true, false, List, [], ◌∷◌, map, take, None, Result, Ok, Err, refl}
+use Rattle.std.specs.Result.{result_unwrap_or}
 use Rattle.std.specs.Float.Ieee.{add, div, eq, in_float, lt, mul, of_bits, of_int, sub, to_bits}
 use Rattle.std.specs.Float.{binary64, inf}
+use Rattle.refusal.specs.Outcome.{and_then, number}
+use Rattle.refusal.specs.declared.Refusal.{Refusal}
+use Rattle.refusal.specs.declared.Refusal.TheVariants.{RunningSums}
 use Rattle.float.specs.Rounded.{bits}
 use Rattle.duration.specs.Seconds.{seconds}
-use Rattle.integer.specs.Fitted.{ordered}
 use Rattle.bandwidth.specs.Rate as Rate
 use Rattle.bandwidth.specs.Size as Size
-use Rattle.bandwidth.specs.declared.OptionBitrate.TheVariants.{None}
 use Rattle.time.specs.Delta as Delta
 use Rattle.time.specs.Time as Time
 use Rattle.time.specs.declared.Timestamp.TheVariants.{Exact}
@@ -34,11 +36,11 @@ abbrev report : ℕ → ℕ → ℕ → ℕ → ℕ → PacketResultsSummary
 report packets lost bytes bytes_lost time =
     record { num_packets = packets; num_lost_packets = lost; total_size = bytes; lost_size = bytes_lost; last_send_time = time }
 
-limits : (Partial.updated (sums 999999999 999999999999 0) (report 1 0 1 0 0)).refusal ≡ 0
-    × Partial.updated (sums 999999999 999999999999 0) (report 2 0 1 0 0) ≡ Partial.refused (sums 999999999 999999999999 0) 10
-    × (Partial.updated (sums 999999999 999999999999 0) (report 1 0 2 0 0)).refusal ≡ 10
-    × (Partial.updated (sums 18446744073709551615 0 0) (report 18446744073709551615 0 0 0 0)).refusal ≡ 10
-    × (Partial.updated (sums 1 1 18446744073709551615) (report 1 1 1 1 0)).refusal ≡ 7
+limits : number (Partial.updated (sums 999999999 999999999999 0) (report 1 0 1 0 0)) ≡ 0
+    × Partial.updated (sums 999999999 999999999999 0) (report 2 0 1 0 0) ≡ Err RunningSums
+    × number (Partial.updated (sums 999999999 999999999999 0) (report 1 0 2 0 0)) ≡ 10
+    × number (Partial.updated (sums 18446744073709551615 0 0) (report 18446744073709551615 0 0 0 0)) ≡ 10
+    × number (Partial.updated (sums 1 1 18446744073709551615) (report 1 1 1 1 0)) ≡ 7
 unfolding Partial.updated
 limits = (refl, refl, refl, refl, refl)
 
@@ -48,22 +50,26 @@ limits = (refl, refl, refl, refl, refl)
 abbrev report_at : ℕ → PacketResultsSummary
 report_at k = report (3 + k) (k % 4) (1000 + 777 * k * k) (97 * k * k * (k % 4)) (1000000000 + k * 250000003)
 
+-- the observations after a report, which is not refused here
+abbrev after : Observations → PacketResultsSummary → Observations
+after o s = (result_unwrap_or (added o s) (unchanged o)).observations
+
 abbrev three : Observations
-three = (added (added (added (cleared true 0) (report_at 0)).observations (report_at 1)).observations (report_at 2)).observations
+three = after (after (after (cleared true 0) (report_at 0)) (report_at 1)) (report_at 2)
 
 three_reports : three.num_observations ≡ 2
     × three.last_send_time_most_recent_observation ≡ Exact 1500000006
     × three.partial_observation ≡ Partial.none
     × to_bits binary64 (cached three.cached_instant_upper_bound).bps ≡ 0x4132EAF2B8C0337F
-unfolding add div eq in_float lt mul of_bits of_int sub to_bits seconds ordered Rate.over Delta.difference Delta.in_seconds Delta.order Delta.rate
+unfolding add div eq in_float lt mul of_bits of_int sub to_bits seconds Rate.over Size.float Delta.difference Delta.in_seconds Delta.order Delta.rate
     Time.since weight loss_ratio Partial.updated age window readable average_reported_loss_ratio loss_ceiling instant_limit instant_upper_bound valid_or_max
     cached cleared reference completes full observed stored with_ceiling with_partial renewed completed added
 three_reports = (refl, refl, refl, refl)
 
 -- a summary of no packets changes nothing, whatever else it says: neither the reference time where there is none yet, nor the running sums, nor the count
-no_packets : added (cleared true 3) (report 0 0 0 0 0) ≡ unchanged (cleared true 3)
-    × added three (report 0 0 0 0 4000000000) ≡ unchanged three
-    × added three (report 0 1 1000000000001 9 4000000000) ≡ unchanged three
+no_packets : added (cleared true 3) (report 0 0 0 0 0) ≡ Ok (unchanged (cleared true 3))
+    × added three (report 0 0 0 0 4000000000) ≡ Ok (unchanged three)
+    × added three (report 0 1 1000000000001 9 4000000000) ≡ Ok (unchanged three)
 unfolding added
 no_packets = (refl, refl, refl)
 
@@ -112,13 +118,16 @@ later use_bytes =
       cached_instant_upper_bound = None;
     }
 
+-- a ratio by its bits
+abbrev ratio_bits : Observations → Result ℕ Refusal
+ratio_bits o = and_then (average_reported_loss_ratio o) (λ ratio. Ok (to_bits binary64 ratio))
+
 -- by bytes; by packets 1 of 9 in every slot
-ratio_example : map (λ use_bytes. to_bits binary64 (average_reported_loss_ratio (later use_bytes)).value) (true ∷ false ∷ []) ≡
-    0x3FC7389E3ABEBC38 ∷ 0x3FBC71C71C71C71A ∷ []
+ratio_example : map (λ use_bytes. ratio_bits (later use_bytes)) (true ∷ false ∷ []) ≡ Ok 0x3FC7389E3ABEBC38 ∷ Ok 0x3FBC71C71C71C71A ∷ []
 unfolding slots add div eq in_float mul of_bits of_int to_bits weight loss_ratio age window readable average_reported_loss_ratio
 ratio_example = refl
 
-ceiling_example : to_bits binary64 (instant_upper_bound (later true)).rate.bps ≡ 0x412738E4443DA647
+ceiling_example : and_then (instant_upper_bound (later true)) (λ ceiling. Ok (to_bits binary64 ceiling.bps)) ≡ Ok 0x412738E4443DA647
 unfolding slots add div eq in_float lt mul of_bits of_int sub to_bits Rate.over weight loss_ratio age window readable average_reported_loss_ratio
     loss_ceiling instant_limit instant_upper_bound
 ceiling_example = refl
@@ -133,7 +142,7 @@ row_examples :
     × each (row_of true 17 (slot 16 252748 62856)) ≡ 0x3FF0000000000000 ∷ 0x404F6D916872B021 ∷ 0x4067BC8B43958106 ∷ 0x406F97EF9DB22D0E ∷ []
     × each (row_of true 17 (slot 2 7993 2619)) ≡ 0x3FCD484471283D50 ∷ 0x4004F3B645A1CAC1 ∷ 0x40157EF9DB22D0E5 ∷ 0x401FF8D4FDF3B646 ∷ []
     × each (row_of false 17 (slot 16 252748 62856)) ≡ 0x3FF0000000000000 ∷ 0x3FF0000000000000 ∷ 0x4020000000000000 ∷ 0x4022000000000000 ∷ []
-unfolding each div in_float mul of_bits of_int to_bits Size.kilobytes weight age row_of
+unfolding each div in_float mul of_bits of_int to_bits Size.float Size.kilobytes weight age row_of
 row_examples = (refl, refl, refl, refl)
 
 -- a size that no float holds is refused, but not in a slot that is not initialised, and not by packets
@@ -150,7 +159,7 @@ unreadable = (refl, refl, refl, refl)
 -- arrived. "Its bytes and packets [..] count in the first observation": what is lost is the first report's
 abbrev pads : Bool → ℕ → ℕ → ℕ → ℕ → ℕ → Observations
 pads use_bytes packets lost bytes bytes_lost last =
-    (added (added (cleared use_bytes 0) (report (packets - 1) lost (bytes - last) bytes_lost 7)).observations (report 1 0 last 0 300000007)).observations
+    after (after (cleared use_bytes 0) (report (packets - 1) lost (bytes - last) bytes_lost 7)) (report 1 0 last 0 300000007)
 
 -- the ceiling that is read then, as the bits of its rate
 abbrev ceiling_bits : Observations → ℕ
@@ -160,19 +169,18 @@ ceiling_bits o = to_bits binary64 (cached o.cached_instant_upper_bound).bps
 pad_ceilings :
     map ceiling_bits (pads false 20 1 1000 500 50 ∷ pads false 20 2 1000 500 50 ∷ pads false 20 2 0 0 0 ∷ pads true 20 2 1000 50 50 ∷ []) ≡
     0x7FF0000000000000 ∷ 0x413E848000000000 ∷ 0x413E848000000000 ∷ 0x7FF0000000000000 ∷ []
-unfolding add div eq in_float lt mul of_bits of_int sub to_bits seconds ordered Rate.over Delta.difference Delta.in_seconds Delta.order Delta.rate
+unfolding add div eq in_float lt mul of_bits of_int sub to_bits seconds Rate.over Size.float Delta.difference Delta.in_seconds Delta.order Delta.rate
     Time.since weight loss_ratio Partial.updated age window readable average_reported_loss_ratio loss_ceiling instant_limit instant_upper_bound valid_or_max
     cached cleared reference completes full observed stored with_ceiling with_partial renewed completed added
 pad_ceilings = refl
 
 -- sizes 1000, 10, 10 with the first lost: 1/3 by packets and 1000/1020 by bytes, and one sending rate, that of 1,020 bytes in 300 ms
 pad_ratios :
-    map (λ use_bytes. to_bits binary64 (average_reported_loss_ratio (pads use_bytes 3 1 1020 1000 10)).value) (false ∷ true ∷ []) ≡
-    0x3FD5555555555555 ∷ 0x3FEF5F5F5F5F5F5F ∷ []
+    map (λ use_bytes. ratio_bits (pads use_bytes 3 1 1020 1000 10)) (false ∷ true ∷ []) ≡ Ok 0x3FD5555555555555 ∷ Ok 0x3FEF5F5F5F5F5F5F ∷ []
     × map (λ use_bytes. map (λ (o : Observation). to_bits binary64 o.sending_rate.bps) (take 1 (pads use_bytes 3 1 1020 1000 10).observations))
     (false ∷ true ∷ []) ≡
     (0x40DA900000000000 ∷ []) ∷ (0x40DA900000000000 ∷ []) ∷ []
-unfolding add div eq in_float lt mul of_bits of_int sub to_bits seconds ordered Rate.over Delta.difference Delta.in_seconds Delta.order Delta.rate
+unfolding add div eq in_float lt mul of_bits of_int sub to_bits seconds Rate.over Size.float Delta.difference Delta.in_seconds Delta.order Delta.rate
     Time.since weight loss_ratio Partial.updated age window readable average_reported_loss_ratio loss_ceiling instant_limit instant_upper_bound valid_or_max
     cached cleared reference completes full observed stored with_ceiling with_partial renewed completed added
 pad_ratios = (refl, refl)

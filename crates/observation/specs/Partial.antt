@@ -1,8 +1,9 @@
 -- The running sums of an observation that is being made. Definitions only.
-use Rattle.std.specs.Prelude.{ℕ, ◌+◌, ◌-◌, ◌^◌, cond, ◌||◌, nat_lt}
+use Rattle.std.specs.Prelude.{◌+◌, ◌-◌, ◌^◌, Bool, if◌then◌else◌, ◌||◌, nat_lt, Result, Ok, Err}
+use Rattle.refusal.specs.declared.Refusal.{Refusal}
+use Rattle.refusal.specs.declared.Refusal.TheVariants.{RunningSums, Arithmetic}
 use Rattle.packets.specs.declared.PacketResultsSummary.{PacketResultsSummary}
 use Rattle.observation.specs.declared.PartialObservation.{PartialObservation}
-use Rattle.observation.specs.declared.PartialAnswer.{PartialAnswer}
 
 -- PartialObservation::new
 abbrev pub none : PartialObservation
@@ -18,14 +19,14 @@ plus p s =
       lost_size = p.lost_size + s.lost_size;
     }
 
--- the sums as they were, beside the number
-abbrev pub refused : PartialObservation → ℕ → PartialAnswer
-refused p refusal = record { partial = p; refusal = refusal }
+-- "10: running bytes would pass 10^12, or packets 10^9"
+abbrev pub beyond : PartialObservation → Bool
+beyond q = nat_lt (10 ^ 9) q.num_packets || nat_lt (10 ^ 12) q.size
 
--- "10: running bytes would pass 10^12, or packets 10^9"; then 7 where a lost sum fits no u64 (PartialObservation::update)
-unfoldable pub updated : PartialObservation → PacketResultsSummary → PartialAnswer
+-- that, and then 7 where a lost sum fits no u64 (PartialObservation::update)
+unfoldable pub updated : PartialObservation → PacketResultsSummary → Result PartialObservation Refusal
 updated p s =
     let q = plus p s in
-    cond (nat_lt (10 ^ 9) q.num_packets || nat_lt (10 ^ 12) q.size) (refused p 10)
-    (cond (nat_lt (2 ^ 64 - 1) q.num_lost_packets || nat_lt (2 ^ 64 - 1) q.lost_size) (refused p 7)
-    (record { partial = q; refusal = 0 }))
+    if beyond q then Err RunningSums
+    else if nat_lt (2 ^ 64 - 1) q.num_lost_packets || nat_lt (2 ^ 64 - 1) q.lost_size then Err Arithmetic
+    else Ok q

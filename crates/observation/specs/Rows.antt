@@ -1,17 +1,18 @@
 -- The window as the rows that the likelihood reads. Definitions only.
-use Rattle.std.specs.Prelude.{ℕ, Bool, true, false, cond, map, replicate, ℤ, pos, ◌-ℤ◌, Float}
+use Rattle.std.specs.Prelude.{ℕ, Bool, true, false, if◌then◌else◌, List, map, ℤ, pos, ◌-ℤ◌, Float, Result, Ok, Err}
+use Rattle.std.specs.Result.{result_unwrap_or}
 use Rattle.std.specs.Float.{binary64}
 use Rattle.std.specs.Float.Ieee.{of_int}
+use Rattle.refusal.specs.declared.Refusal.{Refusal}
+use Rattle.refusal.specs.declared.Refusal.TheVariants.{Arithmetic}
 use Rattle.float.specs.Rounded.{bits}
 use Rattle.bandwidth.specs.Rate as Rate
 use Rattle.bandwidth.specs.Size as Size
-use Rattle.config.specs.Config as Config
 use Rattle.logarithm.specs.Power.{weight}
 use Rattle.likelihood.specs.declared.Row.{Row}
 use Rattle.observation.specs.Ratio.{age, readable}
 use Rattle.observation.specs.declared.Observation.{Observation}
 use Rattle.observation.specs.declared.Observations.{Observations}
-use Rattle.observation.specs.declared.RowsAnswer.{RowsAnswer}
 
 -- the row of an empty slot
 abbrev pub empty_row : Row
@@ -19,7 +20,7 @@ empty_row = record { is_initialized = false; weight = bits 0; lost = bits 0; rec
 
 -- bytes / 1000.0 (DataSize::as_kb), of bytes that a float holds
 abbrev pub kilobytes : ℤ → Float
-kilobytes z = (Size.kilobytes (Size.size z)).value
+kilobytes z = result_unwrap_or (Size.kilobytes (Size.size z)) (bits 0)
 
 -- what `get_objective` and `get_derivatives` read of an observation by bytes: its weight, `lost_size.as_kb()`, `(size - lost_size).as_kb()`,
 -- `size.as_kb()` and its rate
@@ -54,11 +55,10 @@ packet_row weight o =
 unfoldable pub row_of : Bool → ℕ → Observation → Row
 row_of use_bytes count o =
     let w = weight (age count o.id) in
-    cond o.is_initialized (cond use_bytes (byte_row w o) (packet_row w o)) empty_row
+    if o.is_initialized then if use_bytes then byte_row w o else packet_row w o else empty_row
 
--- the rows in slot order, or empty ones beside 7
-unfoldable pub rows : Observations → RowsAnswer
+-- the rows in slot order
+unfoldable pub rows : Observations → Result (List Row) Refusal
 rows o =
-    cond (readable o.use_byte_loss_ratio o.observations)
-    (record { rows = map (row_of o.use_byte_loss_ratio o.num_observations) o.observations; refusal = 0 })
-    (record { rows = replicate Config.observation_window_size empty_row; refusal = 7 })
+    let use_bytes = o.use_byte_loss_ratio in
+    if readable use_bytes o.observations then Ok (map (row_of use_bytes o.num_observations) o.observations) else Err Arithmetic

@@ -1,26 +1,27 @@
 -- Worked examples of the definitions in specs/, which antt computes. They test the definitions; no proof cites them.
-use Rattle.std.specs.Prelude.{◌≡◌, ℕ, true, false, [], ◌∷◌, map, replicate, refl}
-use Rattle.packets.specs.Summary.{columns_refusal, packets, packet_refusal, refused, add_packet, summary_of, is_of_report, added}
+use Rattle.std.specs.Prelude.{◌≡◌, ℕ, true, false, [], ◌∷◌, map, replicate, Ok, Err, refl}
+use Rattle.refusal.specs.declared.Refusal.TheVariants.{Time, UnequalColumns, TooManyPackets, Flag, PacketSize}
+use Rattle.packets.specs.Summary.{check_columns, packets, check_packet, empty, add_packet, summary_of, is_of_report, added}
 use Rattle.packets.specs.declared.PacketResult.{PacketResult}
 use Rattle.packets.specs.declared.PacketResultsSummary.{PacketResultsSummary}
 
 -- three packets, of which the last two are lost, and the first was sent last
 totals : summary_of (30 ∷ 10 ∷ 20 ∷ []) (100 ∷ 200 ∷ 9999999 ∷ []) (0 ∷ 1 ∷ 1 ∷ [])
-    ≡ record { summary = record { num_packets = 3; num_lost_packets = 2; total_size = 10000299; lost_size = 10000199; last_send_time = 30 }; refusal = 0 }
-unfolding columns_refusal packets packet_refusal add_packet summary_of
+    ≡ Ok (record { num_packets = 3; num_lost_packets = 2; total_size = 10000299; lost_size = 10000199; last_send_time = 30 })
+unfolding check_columns packets check_packet add_packet summary_of
 totals = refl
 
 -- an empty report is not refused
-no_packets : summary_of [] [] [] ≡ refused 0
-unfolding columns_refusal packets summary_of
+no_packets : summary_of [] [] [] ≡ Ok empty
+unfolding check_columns packets summary_of
 no_packets = refl
 
 -- 4,096 packets are taken and 4,097 not; a column that is too short goes first
-numbers : columns_refusal (replicate 4096 0) (replicate 4096 0) (replicate 4096 0) ≡ 0
-    × columns_refusal (replicate 4097 0) (replicate 4097 0) (replicate 4097 0) ≡ 5
-    × columns_refusal (replicate 4097 0) (replicate 4097 0) (replicate 4096 0) ≡ 4
-    × columns_refusal [] (0 ∷ []) [] ≡ 4
-unfolding columns_refusal
+numbers : check_columns (replicate 4096 0) (replicate 4096 0) (replicate 4096 0) ≡ Ok tt
+    × check_columns (replicate 4097 0) (replicate 4097 0) (replicate 4097 0) ≡ Err TooManyPackets
+    × check_columns (replicate 4097 0) (replicate 4097 0) (replicate 4096 0) ≡ Err UnequalColumns
+    × check_columns [] (0 ∷ []) [] ≡ Err UnequalColumns
+unfolding check_columns
 numbers = (refl, refl, refl, refl)
 
 -- ---- packets
@@ -30,37 +31,37 @@ sent time size flag = record { local_send_time = time; size = size; lost = flag 
 
 -- 4×10^18 ns and 9,999,999 bytes are taken, and one more of either is not; nor is the largest size that a column holds
 edges :
-    map packet_refusal
+    map check_packet
     (sent 4000000000000000000 9999999 1
     ∷ sent 4000000000000000001 9 0
     ∷ sent 1 10000000 0
     ∷ sent 1 4294967295 0
     ∷ sent 1 9 2
     ∷ []) ≡
-    0 ∷ 3 ∷ 17 ∷ 17 ∷ 8 ∷ []
-unfolding packet_refusal
+    Ok tt ∷ Err Time ∷ Err PacketSize ∷ Err PacketSize ∷ Err Flag ∷ []
+unfolding check_packet
 edges = refl
 
--- a packet's 3 goes before its 17, and both before its 8
+-- a packet's time goes before its size, and both before its flag
 two_codes :
-    map packet_refusal
+    map check_packet
     (sent 4000000000000000001 10000000 0
     ∷ sent 4000000000000000001 9 2
     ∷ sent 1 10000000 2
     ∷ sent 4000000000000000001 10000000 2
     ∷ []) ≡
-    3 ∷ 3 ∷ 17 ∷ 3 ∷ []
-unfolding packet_refusal
+    Err Time ∷ Err Time ∷ Err PacketSize ∷ Err Time ∷ []
+unfolding check_packet
 two_codes = refl
 
 -- the first packet that has a refusal goes before the others
-first_packet : summary_of (1 ∷ 4000000000000000001 ∷ []) (9 ∷ 9 ∷ []) (2 ∷ 0 ∷ []) ≡ refused 8
-    × summary_of (4000000000000000001 ∷ 1 ∷ []) (9 ∷ 9 ∷ []) (0 ∷ 2 ∷ []) ≡ refused 3
-    × summary_of (1 ∷ 4000000000000000001 ∷ []) (10000000 ∷ 9 ∷ []) (0 ∷ 0 ∷ []) ≡ refused 17
-    × summary_of (4000000000000000001 ∷ 1 ∷ []) (9 ∷ 10000000 ∷ []) (0 ∷ 0 ∷ []) ≡ refused 3
-    × summary_of (1 ∷ 1 ∷ []) (9 ∷ 10000000 ∷ []) (2 ∷ 0 ∷ []) ≡ refused 8
-    × summary_of (1 ∷ 1 ∷ []) (10000000 ∷ 9 ∷ []) (0 ∷ 2 ∷ []) ≡ refused 17
-unfolding columns_refusal packets packet_refusal add_packet summary_of
+first_packet : summary_of (1 ∷ 4000000000000000001 ∷ []) (9 ∷ 9 ∷ []) (2 ∷ 0 ∷ []) ≡ Err Flag
+    × summary_of (4000000000000000001 ∷ 1 ∷ []) (9 ∷ 9 ∷ []) (0 ∷ 2 ∷ []) ≡ Err Time
+    × summary_of (1 ∷ 4000000000000000001 ∷ []) (10000000 ∷ 9 ∷ []) (0 ∷ 0 ∷ []) ≡ Err PacketSize
+    × summary_of (4000000000000000001 ∷ 1 ∷ []) (9 ∷ 10000000 ∷ []) (0 ∷ 0 ∷ []) ≡ Err Time
+    × summary_of (1 ∷ 1 ∷ []) (9 ∷ 10000000 ∷ []) (2 ∷ 0 ∷ []) ≡ Err Flag
+    × summary_of (1 ∷ 1 ∷ []) (10000000 ∷ 9 ∷ []) (0 ∷ 2 ∷ []) ≡ Err PacketSize
+unfolding check_columns packets check_packet add_packet summary_of
 first_packet = (refl, refl, refl, refl, refl, refl)
 
 -- ---- totals
@@ -92,12 +93,11 @@ of_no_report :
 unfolding is_of_report
 of_no_report = refl
 
--- one packet more: the 4,096th is taken and the next not, nor one of 10,000,000 bytes, nor one beside totals of no report; a refusal stays
+-- one packet more: the 4,096th is taken and the next not, nor one of 10,000,000 bytes, nor one beside totals of no report
 one_more :
-    added (record { summary = sums 4095 0 0 0 3; refusal = 0 }) (sent 9 7 1) ≡ record { summary = sums 4096 1 7 7 9; refusal = 0 }
-    × added (record { summary = sums 4096 0 0 0 3; refusal = 0 }) (sent 9 7 1) ≡ refused 5
-    × added (record { summary = sums 4095 0 0 0 3; refusal = 0 }) (sent 9 10000000 1) ≡ refused 17
-    × added (record { summary = sums 3 4 0 0 3; refusal = 0 }) (sent 9 7 1) ≡ refused 5
-    × added (refused 8) (sent 9 7 1) ≡ refused 8
-unfolding is_of_report added add_packet packet_refusal
-one_more = (refl, refl, refl, refl, refl)
+    added (sums 4095 0 0 0 3) (sent 9 7 1) ≡ Ok (sums 4096 1 7 7 9)
+    × added (sums 4096 0 0 0 3) (sent 9 7 1) ≡ Err TooManyPackets
+    × added (sums 4095 0 0 0 3) (sent 9 10000000 1) ≡ Err PacketSize
+    × added (sums 3 4 0 0 3) (sent 9 7 1) ≡ Err TooManyPackets
+unfolding is_of_report added add_packet check_packet
+one_more = (refl, refl, refl, refl)

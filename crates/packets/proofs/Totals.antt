@@ -1,18 +1,16 @@
 -- The list of packets that three columns of one length make, and how far one packet takes the totals. Assumes nothing.
-use Rattle.std.proofs.Common.{◌≡◌, ℕ, zero, suc, ◌+◌, ◌-◌, ◌*◌, ◌<◌, ◌≤◌, Bool, true, false, cond, ◌&&◌, ◌||◌, eqb, ltb, leb, List, [], ◌∷◌, length, get_or, drop, refl, ap, mul-le-mul_left, mul-one, arith, lit≤, lt-ltb, eqb-true, le-leb, leb-true}
-use mathlib.Core.List.{foldl}
-use Rattle.float.proofs.Fold.{fold_again, fold_end}
-use Rattle.float.proofs.Refusal.{either, checked}
-use Rattle.float.proofs.Both.{both}
+use Rattle.std.proofs.Common.{◌≡◌, ℕ, zero, suc, ◌+◌, ◌-◌, ◌*◌, ◌<◌, ◌≤◌, List, [], ◌∷◌, length, get_or, drop, Ok, refl, ap, mul-le-mul_left, mul-one, arith, lit≤, true, subst}
+use Rattle.std.proofs.lemmas.Bool.Decides.{nat_tests}
+use Rattle.refusal.specs.Outcome.{and_then, try_fold}
+use Rattle.refusal.proofs.Outcome.{both_ok, fold_turn, fold_end, fold_keeps}
 use Rattle.packets.specs.Summary.{
   most_packets,
   latest_time,
   largest_packet,
-  columns_refusal,
+  check_columns,
   packets,
-  packet_refusal,
+  check_packet,
   empty,
-  refused,
   plus,
   add_packet,
   summary_of,
@@ -21,7 +19,6 @@ use Rattle.packets.specs.Summary.{
 }
 use Rattle.packets.specs.declared.PacketResult.{PacketResult}
 use Rattle.packets.specs.declared.PacketResultsSummary.{PacketResultsSummary}
-use Rattle.packets.specs.declared.SummaryAnswer.{SummaryAnswer}
 
 -- ---- columns
 
@@ -31,16 +28,10 @@ pub record Even (times sizes flags : List ℕ) : Type 0 where
   pub flags_even : length flags ≡ length times
   pub few : length times ≤ most_packets
 
-pub not_refused : (times sizes flags : List ℕ) → columns_refusal times sizes flags ≡ 0 → Even times sizes flags
-unfolding columns_refusal
-not_refused times sizes flags = go (eqb (length sizes) (length times)) (eqb (length flags) (length times)) (leb (length times) most_packets) refl refl refl
-  where
-    go : (p q r : Bool) → eqb (length sizes) (length times) ≡ p → eqb (length flags) (length times) ≡ q → leb (length times) most_packets ≡ r
-        → ◌≡◌ {A = ℕ} (cond (p && q) (cond r 0 5) 4) 0 → Even times sizes flags
-    go true true true a b d h = record { sizes_even = eqb-true _ _ a; flags_even = eqb-true _ _ b; few = leb-true _ _ d }
-    go true true false a b d h = absurd (omega arith)
-    go true false r a b d h = absurd (omega arith)
-    go false q r a b d h = absurd (omega arith)
+pub not_refused : (times sizes flags : List ℕ) → check_columns times sizes flags ≡ Ok tt → Even times sizes flags
+unfolding check_columns
+not_refused times sizes flags h =
+    record { sizes_even = grind (arith, nat_tests); flags_even = grind (arith, nat_tests); few = grind (arith, nat_tests) }
 
 pub packets_length : (times sizes flags : List ℕ) → length sizes ≡ length times → length flags ≡ length times
     → length (packets times sizes flags) ≡ length times
@@ -63,18 +54,17 @@ packets_at (t ∷ ts) (s ∷ ss) [] i d h k l = absurd (omega arith)
 packets_at (t ∷ ts) (s ∷ ss) (f ∷ fs) zero d h k l = refl
 packets_at (t ∷ ts) (s ∷ ss) (f ∷ fs) (suc i) d h k l = packets_at ts ss fs i d (omega arith) (omega arith) (omega arith)
 
--- a turn of the loop over three columns, and its end: float/proofs/Fold on the list of packets
+-- a turn of the loop over three columns, and its end
 module _ {times sizes flags : List ℕ} (e : Even times sizes flags) where
-  pub columns_again : (s r t : SummaryAnswer) (i : ℕ) → i < length times → r ≡ add_packet s (packet_at times sizes flags i)
-      → foldl add_packet s (drop i (packets times sizes flags)) ≡ t → foldl add_packet r (drop (i + 1) (packets times sizes flags)) ≡ t
-  columns_again s r t i l h p =
+  pub columns_turn : (s : PacketResultsSummary) (i : ℕ) → i < length times
+      → try_fold add_packet s (drop i (packets times sizes flags)) ≡ and_then (add_packet s (packet_at times sizes flags i)) (λ t. try_fold add_packet t (drop (i + 1) (packets times sizes flags)))
+  columns_turn s i l =
       let d = packet_at times sizes flags i in
       let l' : i < length (packets times sizes flags) = rw (packets_length times sizes flags e.sizes_even e.flags_even) l in
-      fold_again add_packet s r t (packets times sizes flags) i d l' (rw (packets_at times sizes flags i d e.sizes_even e.flags_even l) h) p
+      rw (fold_turn add_packet s (packets times sizes flags) i d l', packets_at times sizes flags i d e.sizes_even e.flags_even l)
 
-  pub columns_end : (s t : SummaryAnswer) (i : ℕ) → length times ≤ i → foldl add_packet s (drop i (packets times sizes flags)) ≡ t → s ≡ t
-  columns_end s t i l p =
-      fold_end add_packet s t (packets times sizes flags) i (rw (packets_length times sizes flags e.sizes_even e.flags_even) l) p
+  pub columns_end : (s : PacketResultsSummary) (i : ℕ) → length times ≤ i → try_fold add_packet s (drop i (packets times sizes flags)) ≡ Ok s
+  columns_end s i l = fold_end add_packet s (packets times sizes flags) i (rw (packets_length times sizes flags e.sizes_even e.flags_even) l)
 
 -- ---- totals
 
@@ -84,40 +74,33 @@ pub record TakenPacket (p : PacketResult) : Type 0 where
   pub size_within : p.size ≤ largest_packet
   pub flag_small : p.lost ≤ 1
 
-pub packet_taken : (p : PacketResult) → packet_refusal p ≡ 0 → TakenPacket p
-unfolding packet_refusal
-packet_taken p = go (leb p.local_send_time latest_time) (leb p.size largest_packet) (leb p.lost 1) refl refl refl
-  where
-    go : (a b d : Bool) → leb p.local_send_time latest_time ≡ a → leb p.size largest_packet ≡ b → leb p.lost 1 ≡ d
-        → ◌≡◌ {A = ℕ} (cond a (cond b (cond d 0 8) 17) 3) 0 → TakenPacket p
-    go true true true e f g h = record { early = leb-true _ _ e; size_within = leb-true _ _ f; flag_small = leb-true _ _ g }
-    go true true false e f g h = absurd (omega arith)
-    go true false d e f g h = absurd (omega arith)
-    go false b d e f g h = absurd (omega arith)
+pub packet_taken : (p : PacketResult) → check_packet p ≡ Ok tt → TakenPacket p
+unfolding check_packet
+packet_taken p h = record { early = grind (arith, nat_tests); size_within = grind (arith, nat_tests); flag_small = grind (arith, nat_tests) }
 
-pub lost_part : (p : PacketResult) → packet_refusal p ≡ 0 → p.size * p.lost ≤ p.size
+pub lost_part : (p : PacketResult) → check_packet p ≡ Ok tt → p.size * p.lost ≤ p.size
 lost_part p h = omega (arith, mul-le-mul_left p.size (packet_taken p h).flag_small, mul-one p.size)
 
--- what empty totals have, and every packet that is taken keeps, holds of the totals of every report, which are empty where it is refused
-pub summary_holds : (P : PacketResultsSummary → Type 0) → P empty → ((s : PacketResultsSummary) (p : PacketResult) → packet_refusal p ≡ 0 → P s → P (plus s p))
-    → (times sizes flags : List ℕ) → P (summary_of times sizes flags).summary
-unfolding summary_of add_packet
-summary_holds P none more times sizes flags =
-    either (λ (a : SummaryAnswer). P a.summary) (eqb (columns_refusal times sizes flags) 0) _ _ (go (packets times sizes flags) (refused 0) none) none
-  where
-    go : (ps : List PacketResult) (a : SummaryAnswer) → P a.summary → P (foldl add_packet a ps).summary
-    go [] a h = h
-    go (p ∷ ps) a h =
-        go ps (add_packet a p)
-        (either (λ (a : SummaryAnswer). P a.summary) (eqb a.refusal 0) _ a
-        (checked (λ (a : SummaryAnswer). P a.summary) (packet_refusal p) (λ e. more a.summary p e h) (λ r. none))
-        h)
+-- a packet that is added was taken
+pub add_taken : {P : Type 0} (s : PacketResultsSummary) (p : PacketResult) (t : PacketResultsSummary) → add_packet s p ≡ Ok t
+    → (check_packet p ≡ Ok tt → plus s p ≡ t → P) → P
+unfolding add_packet
+add_taken s p t h k = both_ok (check_packet p) (λ checked. Ok (plus s p)) t h (λ checked e same. k e cc)
+
+-- what empty totals have, and every packet that is taken keeps, holds of the totals of every report
+pub summary_holds : (P : PacketResultsSummary → Type 0) → P empty
+    → ((s : PacketResultsSummary) (p : PacketResult) → check_packet p ≡ Ok tt → P s → P (plus s p))
+    → (times sizes flags : List ℕ) (s : PacketResultsSummary) → summary_of times sizes flags ≡ Ok s → P s
+unfolding summary_of
+summary_holds P none more times sizes flags s h =
+    both_ok (check_columns times sizes flags) _ s h (λ checked e folded.
+    fold_keeps add_packet P (λ s p t added held. add_taken s p t added (λ taken same. subst P same (more s p taken held))) empty _ s folded none)
 
 -- no summary has a later send time than that
-pub summary_early : (times sizes flags : List ℕ) → (summary_of times sizes flags).summary.last_send_time ≤ latest_time
+pub summary_early : (times sizes flags : List ℕ) (s : PacketResultsSummary) → summary_of times sizes flags ≡ Ok s → s.last_send_time ≤ latest_time
 summary_early =
     summary_holds (λ (s : PacketResultsSummary). s.last_send_time ≤ latest_time) (lit≤ tt)
-    (λ s p e h. either (λ (t : ℕ). t ≤ latest_time) (ltb s.last_send_time p.local_send_time) _ _ (packet_taken p e).early h)
+    (λ s p e h. let taken = packet_taken p e in grind (arith, nat_tests))
 
 -- the totals of at most n packets
 pub record TotalsOf (n : ℕ) (s : PacketResultsSummary) : Type 0 where
@@ -155,7 +138,7 @@ pub bytes_within : {n : ℕ} (s : PacketResultsSummary) → TotalsOf n s → s.t
 bytes_within s w = omega (arith, w.packets_within, w.lost_packets_within, w.lost_size_within, w.lost_within, w.others_within)
 
 -- what a packet that is taken has is within the largest size, lost or not
-shares : (p : PacketResult) → packet_refusal p ≡ 0
+shares : (p : PacketResult) → check_packet p ≡ Ok tt
     → (p.size * p.lost ≤ largest_packet * p.lost) × (p.size + largest_packet * p.lost ≤ largest_packet + p.size * p.lost)
 shares p h = go p.lost (packet_taken p h).flag_small
   where
@@ -165,7 +148,7 @@ shares p h = go p.lost (packet_taken p h).flag_small
     go (suc (suc f)) k = absurd (omega arith)
 
 -- a packet that is taken makes them totals of one packet more
-plus_within : (n : ℕ) (s : PacketResultsSummary) (p : PacketResult) → packet_refusal p ≡ 0 → TotalsOf n s → TotalsOf (n + 1) (plus s p)
+plus_within : (n : ℕ) (s : PacketResultsSummary) (p : PacketResult) → check_packet p ≡ Ok tt → TotalsOf n s → TotalsOf (n + 1) (plus s p)
 plus_within n s p e w =
     let flag = (packet_taken p e).flag_small in
     record {
@@ -177,50 +160,30 @@ plus_within n s p e w =
       timed = λ z. absurd (omega arith);
     }
 
-pub within_more : (n : ℕ) (a : SummaryAnswer) (p : PacketResult) → TotalsOf n a.summary → TotalsOf (n + 1) (add_packet a p).summary
-unfolding add_packet
-within_more n a p w =
-    let P : SummaryAnswer → Type 0 = λ a. TotalsOf (n + 1) a.summary in
-    either P (eqb a.refusal 0) _ a
-    (checked P (packet_refusal p) (λ e. plus_within n a.summary p e w) (λ r. none_within (n + 1)))
-    (within_larger a.summary (omega arith) w)
+pub within_more : (n : ℕ) (s : PacketResultsSummary) (p : PacketResult) (t : PacketResultsSummary) → add_packet s p ≡ Ok t → TotalsOf n s → TotalsOf (n + 1) t
+within_more n s p t h w = add_taken s p t h (λ taken same. subst (λ u. TotalsOf (n + 1) u) same (plus_within n s p taken w))
 
 -- ---- the test for totals
 
 pub of_report : (s : PacketResultsSummary) → TotalsOf most_packets s → is_of_report s ≡ true
 unfolding is_of_report
-of_report s w =
-    rw (le-leb _ _ w.packets_within, le-leb _ _ w.lost_packets_within, le-leb _ _ w.lost_size_within)
-    (rw (le-leb _ _ w.lost_within, le-leb _ _ w.others_within) (go s.num_packets refl))
-  where
-    go : (n : ℕ) → s.num_packets ≡ n → ltb 0 s.num_packets || eqb s.last_send_time 0 ≡ true
-    go zero e = rw (e, w.timed e) refl
-    go (suc n) e = rw (lt-ltb 0 s.num_packets (omega arith)) refl
+of_report s w = grind (arith, nat_tests)
 
 pub totals_of : (s : PacketResultsSummary) → is_of_report s ≡ true → TotalsOf most_packets s
 unfolding is_of_report
 totals_of s e =
-    let timed = ltb 0 s.num_packets || eqb s.last_send_time 0 in
-    let others = leb (s.total_size - s.lost_size) (largest_packet * (s.num_packets - s.num_lost_packets)) && timed in
-    let lost = leb s.lost_size (largest_packet * s.num_lost_packets) && others in
-    let sizes = leb s.lost_size s.total_size && lost in
-    let p = both (leb s.num_packets most_packets) (leb s.num_lost_packets s.num_packets && sizes) e in
-    let q = both (leb s.num_lost_packets s.num_packets) sizes p.1 in
-    let r = both (leb s.lost_size s.total_size) lost q.1 in
-    let t = both (leb s.lost_size (largest_packet * s.num_lost_packets)) others r.1 in
-    let u = both (leb (s.total_size - s.lost_size) (largest_packet * (s.num_packets - s.num_lost_packets))) timed t.1 in
     record {
-      packets_within = leb-true _ _ p.0;
-      lost_packets_within = leb-true _ _ q.0;
-      lost_size_within = leb-true _ _ r.0;
-      lost_within = leb-true _ _ t.0;
-      others_within = leb-true _ _ u.0;
-      timed = λ z. eqb-true _ _ (rw z at u.1);
+      packets_within = grind (arith, nat_tests);
+      lost_packets_within = grind (arith, nat_tests);
+      lost_size_within = grind (arith, nat_tests);
+      lost_within = grind (arith, nat_tests);
+      others_within = grind (arith, nat_tests);
+      timed = λ z. grind (arith, nat_tests);
     }
 
 -- one packet more is `add_packet` on the totals of fewer than 4,096 packets
-pub added_is : (a : SummaryAnswer) (p : PacketResult) → TotalsOf 4095 a.summary → added a p ≡ add_packet a p
+pub added_is : (s : PacketResultsSummary) (p : PacketResult) → TotalsOf 4095 s → added s p ≡ add_packet s p
 unfolding added
-added_is a p w =
-    rw (of_report a.summary (within_larger _ (lit≤ tt) w))
-    (rw (lt-ltb a.summary.num_packets most_packets (omega (arith, w.packets_within))) refl)
+added_is s p w =
+    let room = w.packets_within in
+    rw (of_report s (within_larger s (lit≤ tt) w)) (grind (arith, nat_tests))

@@ -1,9 +1,10 @@
 -- The packets of a report and their totals. Definitions only.
-use Rattle.std.specs.Prelude.{ℕ, ◌+◌, ◌-◌, ◌*◌, ◌^◌, Bool, cond, ◌&&◌, ◌||◌, List, [], ◌∷◌, length, ◌==◌, nat_le, nat_lt}
-use mathlib.Core.List.{foldl}
+use Rattle.std.specs.Prelude.{ℕ, ◌+◌, ◌-◌, ◌*◌, ◌^◌, Bool, if◌then◌else◌, ◌&&◌, ◌||◌, List, [], ◌∷◌, length, ◌==◌, nat_le, nat_lt, Result, Ok, Err}
+use Rattle.refusal.specs.Outcome.{and_then, try_fold}
+use Rattle.refusal.specs.declared.Refusal.{Refusal}
+use Rattle.refusal.specs.declared.Refusal.TheVariants.{Time, UnequalColumns, TooManyPackets, Flag, PacketSize}
 use Rattle.packets.specs.declared.PacketResult.{PacketResult}
 use Rattle.packets.specs.declared.PacketResultsSummary.{PacketResultsSummary}
-use Rattle.packets.specs.declared.SummaryAnswer.{SummaryAnswer}
 
 -- ---- limits
 
@@ -22,11 +23,11 @@ largest_packet = 9999999
 -- ---- columns
 
 -- "A report checks 4, 5": columns of unequal length, then more than 4,096 packets
-unfoldable pub columns_refusal : List ℕ → List ℕ → List ℕ → ℕ
-columns_refusal times sizes flags =
-    cond (length sizes == length times && length flags == length times)
-    (cond (nat_le (length times) most_packets) 0 5)
-    4
+unfoldable pub check_columns : List ℕ → List ℕ → List ℕ → Result (Unit {0}) Refusal
+check_columns times sizes flags =
+    if length sizes == length times && length flags == length times
+    then (if nat_le (length times) most_packets then Ok tt else Err TooManyPackets)
+    else Err UnequalColumns
 
 -- the packets that three columns of one length tell of, in their order
 unfoldable pub packets : List ℕ → List ℕ → List ℕ → List PacketResult
@@ -37,20 +38,19 @@ packets (time ∷ times) [] flags = []
 packets [] sizes flags = []
 
 -- "then each packet's 3, 17 and 8": a time above 4×10^18 ns, then a size above 9,999,999 bytes, then a flag neither 0 nor 1
-unfoldable pub packet_refusal : PacketResult → ℕ
-packet_refusal p = cond (nat_le p.local_send_time latest_time) (cond (nat_le p.size largest_packet) (cond (nat_le p.lost 1) 0 8) 17) 3
+unfoldable pub check_packet : PacketResult → Result (Unit {0}) Refusal
+check_packet p =
+    if nat_le p.local_send_time latest_time
+    then (if nat_le p.size largest_packet then (if nat_le p.lost 1 then Ok tt else Err Flag) else Err PacketSize)
+    else Err Time
 
 -- ---- totals
 
 abbrev pub empty : PacketResultsSummary
 empty = record { num_packets = 0; num_lost_packets = 0; total_size = 0; lost_size = 0; last_send_time = 0 }
 
--- zeros beside a refusal's number; beside 0, the totals of no packets
-abbrev pub refused : ℕ → SummaryAnswer
-refused refusal = record { summary = empty; refusal = refusal }
-
 abbrev pub later : ℕ → ℕ → ℕ
-later a b = cond (nat_lt a b) b a
+later a b = if nat_lt a b then b else a
 
 -- "Sum bytes, lost bytes, packets and lost packets; take the latest send time": one packet more (the loop of PacketResultsSummary::from)
 abbrev pub plus : PacketResultsSummary → PacketResult → PacketResultsSummary
@@ -63,19 +63,13 @@ plus s p =
       last_send_time = later s.last_send_time p.local_send_time;
     }
 
--- the first packet that has a refusal gives the report's
-unfoldable pub add_packet : SummaryAnswer → PacketResult → SummaryAnswer
-add_packet answer p =
-    cond (answer.refusal == 0)
-    (cond (packet_refusal p == 0) (record { summary = plus answer.summary p; refusal = 0 }) (refused (packet_refusal p)))
-    answer
+-- a packet that is refused adds nothing
+unfoldable pub add_packet : PacketResultsSummary → PacketResult → Result PacketResultsSummary Refusal
+add_packet s p = and_then (check_packet p) (λ checked. Ok (plus s p))
 
 -- the columns' refusal, then packet by packet from the first (PacketResultsSummary::from)
-unfoldable pub summary_of : List ℕ → List ℕ → List ℕ → SummaryAnswer
-summary_of times sizes flags =
-    cond (columns_refusal times sizes flags == 0)
-    (foldl add_packet (refused 0) (packets times sizes flags))
-    (refused (columns_refusal times sizes flags))
+unfoldable pub summary_of : List ℕ → List ℕ → List ℕ → Result PacketResultsSummary Refusal
+summary_of times sizes flags = and_then (check_columns times sizes flags) (λ checked. try_fold add_packet empty (packets times sizes flags))
 
 -- ---- totals that are summed up already
 
@@ -90,8 +84,6 @@ is_of_report s =
     && (nat_le (s.total_size - s.lost_size) (largest_packet * (s.num_packets - s.num_lost_packets))
     && (nat_lt 0 s.num_packets || s.last_send_time == 0)))))
 
--- one packet more, for a caller's own loop: 5 beside totals that no report has, and for a packet that is one too many
-unfoldable pub added : SummaryAnswer → PacketResult → SummaryAnswer
-added answer p =
-    let s = answer.summary in
-    cond (is_of_report s && nat_lt s.num_packets most_packets) (add_packet answer p) (refused 5)
+-- one packet more, for a caller's own loop: 5 where no report has these totals, and for a packet that is one too many
+unfoldable pub added : PacketResultsSummary → PacketResult → Result PacketResultsSummary Refusal
+added s p = if is_of_report s && nat_lt s.num_packets most_packets then add_packet s p else Err TooManyPackets

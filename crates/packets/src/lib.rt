@@ -3,14 +3,16 @@
 #![tactic(auto)]
 
 ghost use Rattle.std.specs.Prelude.{◌≡◌, ◌<◌, true};
-ghost use Rattle.packets.specs.Summary.{most_packets, columns_refusal, packet_refusal, refused, later, add_packet, is_of_report, added, summary_of};
+ghost use Rattle.packets.specs.Summary.{most_packets, check_columns, check_packet, add_packet, is_of_report, added, summary_of};
+
+use refusal::Refusal;
 
 // A packet's bytes.
 pub type PacketSize = u32;
 
 pub const MOST_PACKETS_IN_REPORT: usize = 4_096;
 
-// 17: a larger size (Q-10)
+// A larger size is refused (Q-10).
 pub const LARGEST_PACKET: u64 = 9_999_999;
 
 // 4 * 10^18 ns
@@ -34,11 +36,37 @@ pub struct PacketResultsSummary {
     pub last_send_time: u64,
 }
 
-// A summary, and the number of the refusal: 0 if there is none, and zeros beside any other.
-#[derive(Clone, Copy)]
-pub struct SummaryAnswer {
-    pub summary: PacketResultsSummary,
-    pub refusal: u8,
+// Columns of unequal length go before too many packets.
+#[tactic(auto, using(std::proofs::lemmas::Bool::Decides::nat_tests), unfolding(crate::specs::Summary::check_columns))]
+pub fn check_columns(times: &[u64], sizes: &[PacketSize], flags: &[u8]) -> Result<(), Refusal>
+    ensures { result ≡ check_columns times.now sizes.now flags.now }
+{
+    if sizes.len() != times.len() || flags.len() != times.len() {
+        return Err(Refusal::UnequalColumns);
+    }
+    if times.len() > MOST_PACKETS_IN_REPORT {
+        return Err(Refusal::TooManyPackets);
+    }
+    Ok(())
+}
+
+impl PacketResult {
+    // Its time, then its size, then its flag.
+    #[tactic(auto, using(std::proofs::lemmas::Bool::Decides::nat_tests), unfolding(crate::specs::Summary::check_packet))]
+    pub fn check(self) -> Result<(), Refusal>
+        ensures { result ≡ check_packet self }
+    {
+        if self.local_send_time > LATEST_TIME {
+            return Err(Refusal::Time);
+        }
+        if u64::from(self.size) > LARGEST_PACKET {
+            return Err(Refusal::PacketSize);
+        }
+        if self.lost > 1 {
+            return Err(Refusal::Flag);
+        }
+        Ok(())
+    }
 }
 
 impl PacketResultsSummary {
@@ -52,154 +80,68 @@ impl PacketResultsSummary {
     };
 
     // Whether some report has these totals.
+    #[tactic(auto, using(std::proofs::lemmas::Bool::Decides::nat_tests), unfolding(crate::specs::Summary::is_of_report))]
     pub fn is_of_report(self) -> bool
         ensures { result ≡ is_of_report self }
     {
-        let num_packets = self.num_packets;
-        let num_lost_packets = self.num_lost_packets;
-        let total_size = self.total_size;
-        let lost_size = self.lost_size;
-        if num_packets > MOST_PACKETS_IN_REPORT as u64 {
-            return false;
-        }
-        if num_lost_packets > num_packets {
-            return false;
-        }
-        if lost_size > total_size {
-            return false;
-        }
-        if lost_size > LARGEST_PACKET * num_lost_packets {
-            return false;
-        }
-        if total_size - lost_size > LARGEST_PACKET * (num_packets - num_lost_packets) {
-            return false;
-        }
-        if num_packets > 0 {
-            return true;
-        }
-        self.last_send_time == 0
-    }
-}
-
-// 4 for columns of unequal length, then 5 for more than 4,096 packets.
-pub fn columns_refusal(times: &[u64], sizes: &[PacketSize], flags: &[u8]) -> u8
-    ensures { result ≡ columns_refusal times.now sizes.now flags.now }
-{
-    if sizes.len() != times.len() {
-        return 4;
-    }
-    if flags.len() != times.len() {
-        return 4;
-    }
-    if times.len() > MOST_PACKETS_IN_REPORT {
-        return 5;
-    }
-    0
-}
-
-impl PacketResult {
-    // 3 for a time above 4 * 10^18 ns, then 17 for a size above 9,999,999 bytes, then 8 for a flag that
-    // is neither 0 nor 1.
-    pub fn refusal(self) -> u8
-        ensures { result ≡ packet_refusal self }
-    {
-        let time = self.local_send_time;
-        if time > LATEST_TIME {
-            return 3;
-        }
-        let size = self.size as u64;
-        if size > LARGEST_PACKET {
-            return 17;
-        }
-        let lost = self.lost;
-        if lost > 1 {
-            return 8;
-        }
-        0
-    }
-}
-
-// std::cmp::max of two instants.
-fn max(a: u64, b: u64) -> u64
-    ensures { result ≡ later a b }
-{
-    if a < b {
-        return b;
-    }
-    a
-}
-
-impl SummaryAnswer {
-    pub fn refused(refusal: u8) -> SummaryAnswer
-        ensures { result ≡ refused refusal }
-    {
-        SummaryAnswer {
-            summary: PacketResultsSummary::EMPTY,
-            refusal,
-        }
+        self.num_packets <= MOST_PACKETS_IN_REPORT as u64
+            && self.num_lost_packets <= self.num_packets
+            && self.lost_size <= self.total_size
+            && self.lost_size <= LARGEST_PACKET * self.num_lost_packets
+            && self.total_size - self.lost_size
+                <= LARGEST_PACKET * (self.num_packets - self.num_lost_packets)
+            && (self.num_packets > 0 || self.last_send_time == 0)
     }
 
-    // One packet more. The first refusal stays.
-    fn add_packet(self, packet: PacketResult) -> SummaryAnswer
-        requires { (is_of_report self.summary ≡ true) × (self.summary.num_packets < most_packets) }
+    // One packet more.
+    #[tactic(auto, using(std::proofs::lemmas::Bool::Decides::nat_tests), unfolding(crate::specs::Summary::add_packet))]
+    fn add_packet(self, packet: PacketResult) -> Result<PacketResultsSummary, Refusal>
+        requires { (is_of_report self ≡ true) × (self.num_packets < most_packets) }
         ensures { result ≡ add_packet self packet }
     {
-        let before = self.refusal;
-        if before != 0 {
-            return self;
-        }
-        let refusal = packet.refusal();
-        if refusal != 0 {
-            return SummaryAnswer::refused(refusal);
-        }
-        let summary = self.summary;
-        let lost = packet.lost as u64;
-        let size = packet.size as u64;
-        SummaryAnswer {
-            summary: PacketResultsSummary {
-                num_packets: summary.num_packets + 1,
-                num_lost_packets: summary.num_lost_packets + lost,
-                total_size: summary.total_size + size,
-                lost_size: summary.lost_size + size * lost,
-                last_send_time: max(summary.last_send_time, packet.local_send_time),
-            },
-            refusal: 0,
-        }
+        packet.check()?;
+        let lost = u64::from(packet.lost);
+        let size = u64::from(packet.size);
+        Ok(PacketResultsSummary {
+            num_packets: self.num_packets + 1,
+            num_lost_packets: self.num_lost_packets + lost,
+            total_size: self.total_size + size,
+            lost_size: self.lost_size + size * lost,
+            last_send_time: self.last_send_time.max(packet.local_send_time),
+        })
     }
 
-    // The same for a caller's own loop: 5 where the totals are no report's that has room for it.
-    pub fn add(self, packet: PacketResult) -> SummaryAnswer
+    // The same for a caller's own loop: refused where the totals are no report's that has room for
+    // it.
+    #[tactic(auto, using(std::proofs::lemmas::Bool::Decides::nat_tests), unfolding(crate::specs::Summary::added))]
+    pub fn add(self, packet: PacketResult) -> Result<PacketResultsSummary, Refusal>
         ensures { result ≡ added self packet }
     {
-        let summary = self.summary;
-        if !summary.is_of_report() {
-            return SummaryAnswer::refused(5);
-        }
-        if summary.num_packets >= MOST_PACKETS_IN_REPORT as u64 {
-            return SummaryAnswer::refused(5);
+        if !self.is_of_report() || self.num_packets >= MOST_PACKETS_IN_REPORT as u64 {
+            return Err(Refusal::TooManyPackets);
         }
         self.add_packet(packet)
     }
 }
 
 // PacketResultsSummary::from. Without packets it is EMPTY, where Rust has none.
-pub fn summary(times: &[u64], sizes: &[PacketSize], flags: &[u8]) -> SummaryAnswer
+#[tactic(auto, unfolding(crate::specs::Summary::summary_of))]
+pub fn summary(
+    times: &[u64],
+    sizes: &[PacketSize],
+    flags: &[u8],
+) -> Result<PacketResultsSummary, Refusal>
     ensures { result ≡ summary_of times.now sizes.now flags.now }
 {
-    let refusal = columns_refusal(times, sizes, flags);
-    if refusal != 0 {
-        return SummaryAnswer::refused(refusal);
-    }
-    let mut answer = SummaryAnswer::refused(0);
-    let mut i = 0;
-    while i < times.len() {
+    check_columns(times, sizes, flags)?;
+    let mut summary = PacketResultsSummary::EMPTY;
+    for i in 0..times.len() {
         let packet = PacketResult {
             local_send_time: times[i],
             size: sizes[i],
             lost: flags[i],
         };
-        answer = answer.add_packet(packet);
-        i += 1;
+        summary = summary.add_packet(packet)?;
     }
-    answer
+    Ok(summary)
 }

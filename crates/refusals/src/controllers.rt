@@ -1,36 +1,54 @@
 // Controllers of either profile of which no other part is as in a new one, so that a part that is
 // not handed back shows.
-use crate::values::{BYTES, COUNT, PACKETS, REFERENCE};
-use bandwidth::{Bitrate, OptionBitrate};
+use crate::values::REFERENCE;
+use bandwidth::Bitrate;
 use duration::Duration;
 use estimator::{Estimator, HoldInfo, LossControllerState, Recovery};
 use likelihood::ChannelParameters;
-use loss_controller::{Inputs, LossController, OptionInstant};
+use loss_controller::{Inputs, LossController};
 use observation::{Observation, Observations, PartialObservation};
+use std::fmt;
 use time::Timestamp;
 
-pub(crate) fn start(use_byte_loss_ratio: bool) -> LossController {
-    controller(use_byte_loss_ratio, COUNT, PACKETS, BYTES)
+// A controller's count of observations, and its running packets and bytes
+#[derive(Clone, Copy)]
+pub(crate) struct Sums {
+    pub(crate) count: u64,
+    pub(crate) packets: u64,
+    pub(crate) bytes: u64,
 }
 
-pub(crate) fn controller(
-    use_byte_loss_ratio: bool,
-    num_observations: u64,
-    num_packets: u64,
-    size: u64,
-) -> LossController {
+// Where a case asks for no other
+pub(crate) const USUAL: Sums = Sums {
+    count: 40,
+    packets: 5,
+    bytes: 5_000,
+};
+
+impl fmt::Display for Sums {
+    fn fmt<W: fmt::Write>(&self, f: &mut fmt::Formatter<W>) -> fmt::Result {
+        let Sums {
+            count,
+            packets,
+            bytes,
+        } = *self;
+        write!(f, "count {count}, packets {packets}, bytes {bytes}")
+    }
+}
+
+pub(crate) fn controller(use_byte_loss_ratio: bool, sums: Sums) -> LossController {
     let observations = Observations {
         use_byte_loss_ratio,
         partial_observation: PartialObservation {
-            num_packets,
+            num_packets: sums.packets,
             num_lost_packets: 1,
-            size,
+            size: sums.bytes,
             lost_size: 500,
         },
         last_send_time_most_recent_observation: Timestamp::Exact(REFERENCE),
-        num_observations,
-        observations: window(num_observations),
-        cached_instant_upper_bound: OptionBitrate::Some(Bitrate { bps: 2.0e6 }),
+        num_observations: sums.count,
+        observations: window(sums.count),
+        cached_instant_upper_bound: Some(Bitrate { bps: 2.0e6 }),
     };
     LossController {
         observations,
@@ -38,8 +56,8 @@ pub(crate) fn controller(
         inputs: Inputs {
             acknowledged_bitrate: Bitrate { bps: 1.3e6 },
             delay_based_estimate: Bitrate { bps: 1.7e6 },
-            alr_start_time: OptionInstant::Some(8_000_000_000),
-            link_capacity_estimate: OptionBitrate::Some(Bitrate { bps: 2.5e6 }),
+            alr_start_time: Some(8_000_000_000),
+            link_capacity_estimate: Some(Bitrate { bps: 2.5e6 }),
         },
     }
 }
@@ -68,22 +86,7 @@ fn estimator() -> Estimator {
 
 // The fifteen newest of so many observations, each in its slot.
 fn window(count: u64) -> [Observation; 15] {
-    let a = observation(count, 0);
-    let b = observation(count, 1);
-    let c = observation(count, 2);
-    let d = observation(count, 3);
-    let e = observation(count, 4);
-    let f = observation(count, 5);
-    let g = observation(count, 6);
-    let h = observation(count, 7);
-    let i = observation(count, 8);
-    let j = observation(count, 9);
-    let k = observation(count, 10);
-    let l = observation(count, 11);
-    let m = observation(count, 12);
-    let n = observation(count, 13);
-    let o = observation(count, 14);
-    [a, b, c, d, e, f, g, h, i, j, k, l, m, n, o]
+    std::array::from_fn(|slot| observation(count, slot as u64))
 }
 
 fn observation(count: u64, slot: u64) -> Observation {
@@ -96,50 +99,27 @@ fn observation(count: u64, slot: u64) -> Observation {
         lost_size: 500 + place,
         num_received_packets: 19,
         sending_rate: Bitrate { bps: 6.4e5 },
-        id: std::num::wrapping_sub_u64(count, age + 1),
+        id: count.wrapping_sub(age + 1),
         is_initialized: true,
     }
 }
 
 pub(crate) fn without_estimate(mut controller: LossController) -> LossController {
-    let mut estimator = controller.estimator;
-    let mut current_estimate = estimator.current_estimate;
-    let none = Bitrate::neg_infinity();
-    current_estimate.loss_limited_bandwidth = none;
-    estimator.current_estimate = current_estimate;
-    controller.estimator = estimator;
+    controller.estimator.current_estimate.loss_limited_bandwidth = Bitrate::NEG_INFINITY;
     controller
 }
 
 // As before the first report
 pub(crate) fn without_reference(mut controller: LossController) -> LossController {
-    let before = controller.observations;
-    let partial_observation = before.partial_observation;
-    let observations = before.observations;
-    let cached_instant_upper_bound = before.cached_instant_upper_bound;
-    let timeless = Observations {
-        use_byte_loss_ratio: before.use_byte_loss_ratio,
-        partial_observation,
-        last_send_time_most_recent_observation: Timestamp::DistantFuture,
-        num_observations: before.num_observations,
-        observations,
-        cached_instant_upper_bound,
-    };
-    controller.observations = timeless;
+    controller
+        .observations
+        .last_send_time_most_recent_observation = Timestamp::DistantFuture;
     controller
 }
 
 // ALR off and no link capacity
 pub(crate) fn without_options(mut controller: LossController) -> LossController {
-    let inputs = controller.inputs;
-    let acknowledged_bitrate = inputs.acknowledged_bitrate;
-    let delay_based_estimate = inputs.delay_based_estimate;
-    let off = Inputs {
-        acknowledged_bitrate,
-        delay_based_estimate,
-        alr_start_time: OptionInstant::None,
-        link_capacity_estimate: OptionBitrate::None,
-    };
-    controller.inputs = off;
+    controller.inputs.alr_start_time = None;
+    controller.inputs.link_capacity_estimate = None;
     controller
 }

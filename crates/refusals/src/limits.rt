@@ -1,183 +1,246 @@
 // Reports at each limit: codes 4 and 5, 3, 17 and 8, 10, 11, and reports without packets.
-use crate::controllers::{controller, without_estimate, without_reference};
+use crate::controllers::{Sums, USUAL, controller, without_estimate, without_reference};
 use crate::reports::{completing, marked, of_lengths, packets, send};
 use crate::values::{
-    BYTES, COMPLETING, COUNT, LARGEST, LATEST, MOST_BYTES, MOST_COUNT, MOST_PACKETS, NOWHERE,
-    PACKETS, TOO_LARGE, TOO_LATE,
+    COMPLETING, LARGEST, LATEST, MOST_BYTES, MOST_COUNT, MOST_PACKETS, TOO_LARGE, TOO_LATE,
 };
 use crate::verdict::Tally;
+use refusal::Refusal;
 use std::io;
 
 // ---- 4 and 5
 
-pub(crate) fn columns(tally: Tally) -> io::Result<Tally> {
-    let mut t = tally;
-    t = t.report(of_lengths(3, 3, 3), 0)?;
-    t = t.report(of_lengths(3, 2, 3), 4)?;
-    t = t.report(of_lengths(3, 4, 3), 4)?;
-    t = t.report(of_lengths(3, 0, 3), 4)?;
-    t = t.report(of_lengths(3, 3, 2), 4)?;
-    t = t.report(of_lengths(3, 3, 4), 4)?;
-    t = t.report(of_lengths(3, 3, 0), 4)?;
-    t = t.report(of_lengths(2, 3, 3), 4)?;
-    t = t.report(of_lengths(4, 3, 3), 4)?;
-    t = t.report(of_lengths(0, 3, 3), 4)?;
-    t = t.report(of_lengths(3, 0, 0), 4)?;
-    t = t.report(of_lengths(0, 3, 0), 4)?;
-    t = t.report(of_lengths(0, 0, 3), 4)?;
-    t = t.report(of_lengths(1, 2, 3), 4)?;
-    t = t.report(of_lengths(4_096, 4_097, 4_096), 4)?;
-    t = t.report(of_lengths(4_096, 4_096, 4_097), 4)?;
-    t = t.report(of_lengths(4_097, 4_096, 4_096), 4)?;
-    t = t.report(of_lengths(4_097, 4_096, 4_097), 4)?;
-    t = t.report(of_lengths(4_097, 4_097, 4_096), 4)?;
-    Ok(t)
+pub(crate) fn columns(tally: &mut Tally) -> io::Result<()> {
+    tally.report(of_lengths(3, 3, 3), None)?;
+    for (times, sizes, flags) in [
+        (3, 2, 3),
+        (3, 4, 3),
+        (3, 0, 3),
+        (3, 3, 2),
+        (3, 3, 4),
+        (3, 3, 0),
+        (2, 3, 3),
+        (4, 3, 3),
+        (0, 3, 3),
+        (3, 0, 0),
+        (0, 3, 0),
+        (0, 0, 3),
+        (1, 2, 3),
+        (4_096, 4_097, 4_096),
+        (4_096, 4_096, 4_097),
+        (4_097, 4_096, 4_096),
+        (4_097, 4_096, 4_097),
+        (4_097, 4_097, 4_096),
+    ] {
+        let report = of_lengths(times, sizes, flags);
+        tally.report(report, Some(Refusal::UnequalColumns))?;
+    }
+    Ok(())
 }
 
-pub(crate) fn longest_reports(tally: Tally) -> io::Result<Tally> {
-    let mut most = packets(4_096);
-    let mut more = packets(4_097);
-    let mut t = tally;
-    t = t.report(most, 0)?;
-    t = t.report(more, 5)?;
-    most.time = COMPLETING;
-    more.time = COMPLETING;
-    t = t.report(most, 0)?;
-    t = t.report(more, 5)?;
-    most.odd_time_at = 4_095;
-    more.odd_time_at = 4_096;
-    t = t.report(most, 3)?;
-    t = t.report(more, 5)?;
-    most.odd_time_at = NOWHERE;
-    most.odd_size_at = 4_095;
-    t = t.report(most, 17)?;
-    most.odd_size_at = NOWHERE;
-    most.odd_flag_at = 4_095;
-    t = t.report(most, 8)?;
-    Ok(t)
+pub(crate) fn longest_reports(tally: &mut Tally) -> io::Result<()> {
+    let refused = Some(Refusal::TooManyPackets);
+    tally.report(packets(4_096), None)?;
+    tally.report(packets(4_097), refused)?;
+    let mut most = completing(4_096);
+    let mut more = completing(4_097);
+    tally.report(most, None)?;
+    tally.report(more, refused)?;
+    most.times.odd_at = Some(4_095);
+    more.times.odd_at = Some(4_096);
+    tally.report(most, Some(Refusal::Time))?;
+    tally.report(more, refused)?;
+    most.times.odd_at = None;
+    most.sizes.odd_at = Some(4_095);
+    tally.report(most, Some(Refusal::PacketSize))?;
+    most.sizes.odd_at = None;
+    most.flags.odd_at = Some(4_095);
+    tally.report(most, Some(Refusal::Flag))
 }
 
 // ---- 3, 17 and 8
 
-pub(crate) fn odd_packets(tally: Tally) -> io::Result<Tally> {
-    let mut late = marked(1, NOWHERE, NOWHERE);
-    let mut t = tally;
-    late.odd_time = LATEST;
-    t = t.report(late, 0)?;
-    late.odd_time = TOO_LATE;
-    t = t.report(late, 3)?;
-    late.odd_time = u64::MAX;
-    t = t.report(late, 3)?;
-    late.odd_time = 0;
-    t = t.report(late, 0)?;
-    let mut large = marked(NOWHERE, 1, NOWHERE);
-    large.odd_size = 65_536;
-    t = t.report(large, 0)?;
-    large.odd_size = LARGEST;
-    t = t.report(large, 0)?;
-    large.odd_size = TOO_LARGE;
-    t = t.report(large, 17)?;
-    large.odd_size = u32::MAX;
-    t = t.report(large, 17)?;
-    let mut flagged = marked(NOWHERE, NOWHERE, 1);
-    flagged.odd_flag = 1;
-    t = t.report(flagged, 0)?;
-    flagged.odd_flag = 2;
-    t = t.report(flagged, 8)?;
-    flagged.odd_flag = 255;
-    t = t.report(flagged, 8)?;
-    Ok(t)
+pub(crate) fn odd_packets(tally: &mut Tally) -> io::Result<()> {
+    let refused = Some(Refusal::Time);
+    for (time, expected) in [
+        (LATEST, None),
+        (TOO_LATE, refused),
+        (u64::MAX, refused),
+        (0, None),
+    ] {
+        let mut report = marked(Some(1), None, None);
+        report.times.odd = time;
+        tally.report(report, expected)?;
+    }
+    let refused = Some(Refusal::PacketSize);
+    for (size, expected) in [
+        (65_536, None),
+        (LARGEST, None),
+        (TOO_LARGE, refused),
+        (u32::MAX, refused),
+    ] {
+        let mut report = marked(None, Some(1), None);
+        report.sizes.odd = size;
+        tally.report(report, expected)?;
+    }
+    let refused = Some(Refusal::Flag);
+    for (flag, expected) in [(1, None), (2, refused), (255, refused)] {
+        let mut report = marked(None, None, Some(1));
+        report.flags.odd = flag;
+        tally.report(report, expected)?;
+    }
+    Ok(())
 }
 
 // ---- 10
 
-pub(crate) fn bytes_limit(tally: Tally) -> io::Result<Tally> {
-    let mut t = tally;
-    t = t.report_to(COUNT, PACKETS, 999_999_997_000, packets(3), 0)?;
-    t = t.report_to(COUNT, PACKETS, 999_999_997_001, packets(3), 10)?;
-    t = t.report_to(COUNT, PACKETS, 999_999_997_000, completing(), 0)?;
-    t = t.report_to(COUNT, PACKETS, 999_999_997_001, completing(), 10)?;
+pub(crate) fn bytes_limit(tally: &mut Tally) -> io::Result<()> {
+    let refused = Some(Refusal::RunningSums);
     let mut empty = packets(3);
-    empty.size = 0;
-    t = t.report_to(COUNT, PACKETS, MOST_BYTES, empty, 0)?;
-    t = t.report_to(COUNT, PACKETS, 1_000_000_000_001, empty, 10)?;
+    empty.sizes.value = 0;
     // 40,959,995,904 bytes
     let mut heaviest = packets(4_096);
-    heaviest.size = LARGEST;
-    t = t.report_to(COUNT, PACKETS, 959_040_004_096, heaviest, 0)?;
-    t = t.report_to(COUNT, PACKETS, 959_040_004_097, heaviest, 10)?;
-    // 100,000 frames of 9,999,999 bytes leave room for 100,000 bytes
-    let mut frame = packets(1);
-    frame.size = LARGEST;
-    t = t.report_to(COUNT, 99_999, 999_989_900_001, frame, 0)?;
-    t = t.report_to(COUNT, 100_000, 999_999_900_000, frame, 10)?;
-    frame.size = 100_000;
-    t = t.report_to(COUNT, 100_000, 999_999_900_000, frame, 0)?;
-    frame.size = 100_001;
-    t = t.report_to(COUNT, 100_000, 999_999_900_000, frame, 10)?;
-    t = t.report_to(COUNT, PACKETS, u64::MAX, packets(3), 10)?;
-    Ok(t)
+    heaviest.sizes.value = LARGEST;
+    for (bytes, report, expected) in [
+        (999_999_997_000, packets(3), None),
+        (999_999_997_001, packets(3), refused),
+        (999_999_997_000, completing(3), None),
+        (999_999_997_001, completing(3), refused),
+        (MOST_BYTES, empty, None),
+        (1_000_000_000_001, empty, refused),
+        (959_040_004_096, heaviest, None),
+        (959_040_004_097, heaviest, refused),
+    ] {
+        tally.report_to(Sums { bytes, ..USUAL }, report, expected)?;
+    }
+    frames_limit(tally)?;
+    let most = Sums {
+        bytes: u64::MAX,
+        ..USUAL
+    };
+    tally.report_to(most, packets(3), refused)
 }
 
-pub(crate) fn packets_limit(tally: Tally) -> io::Result<Tally> {
-    let mut t = tally;
-    t = t.report_to(COUNT, 999_999_997, BYTES, packets(3), 0)?;
-    t = t.report_to(COUNT, 999_999_998, BYTES, packets(3), 10)?;
-    t = t.report_to(COUNT, 999_999_997, BYTES, completing(), 0)?;
-    t = t.report_to(COUNT, 999_999_998, BYTES, completing(), 10)?;
-    t = t.report_to(COUNT, MOST_PACKETS, BYTES, packets(1), 10)?;
-    t = t.report_to(COUNT, u64::MAX, BYTES, packets(3), 10)?;
-    t = t.report_to(COUNT, 999_999_997, 999_999_997_000, packets(3), 0)?;
-    Ok(t)
+// 100,000 frames of 9,999,999 bytes leave room for 100,000 bytes.
+fn frames_limit(tally: &mut Tally) -> io::Result<()> {
+    let refused = Some(Refusal::RunningSums);
+    let frames = Sums {
+        packets: 100_000,
+        bytes: 999_999_900_000,
+        ..USUAL
+    };
+    let before = Sums {
+        packets: 99_999,
+        bytes: 999_989_900_001,
+        ..USUAL
+    };
+    for (sums, size, expected) in [
+        (before, LARGEST, None),
+        (frames, LARGEST, refused),
+        (frames, 100_000, None),
+        (frames, 100_001, refused),
+    ] {
+        let mut frame = packets(1);
+        frame.sizes.value = size;
+        tally.report_to(sums, frame, expected)?;
+    }
+    Ok(())
+}
+
+pub(crate) fn packets_limit(tally: &mut Tally) -> io::Result<()> {
+    let refused = Some(Refusal::RunningSums);
+    for (num_packets, report, expected) in [
+        (999_999_997, packets(3), None),
+        (999_999_998, packets(3), refused),
+        (999_999_997, completing(3), None),
+        (999_999_998, completing(3), refused),
+        (MOST_PACKETS, packets(1), refused),
+        (u64::MAX, packets(3), refused),
+    ] {
+        let sums = Sums {
+            packets: num_packets,
+            ..USUAL
+        };
+        tally.report_to(sums, report, expected)?;
+    }
+    let both = Sums {
+        packets: 999_999_997,
+        bytes: 999_999_997_000,
+        ..USUAL
+    };
+    tally.report_to(both, packets(3), None)
 }
 
 // ---- 11
 
-pub(crate) fn count_limit(tally: Tally) -> io::Result<Tally> {
-    let mut t = tally;
-    t = t.report_to(999_999_999, PACKETS, BYTES, completing(), 0)?;
-    t = t.report_to(999_999_999, PACKETS, BYTES, packets(3), 0)?;
-    t = t.report_to(MOST_COUNT, PACKETS, BYTES, completing(), 11)?;
-    t = t.report_to(MOST_COUNT, PACKETS, BYTES, packets(3), 0)?;
-    t = t.report_to(1_000_000_001, PACKETS, BYTES, completing(), 11)?;
-    t = t.report_to(1_000_000_001, PACKETS, BYTES, packets(3), 0)?;
-    t = t.report_to(u64::MAX, PACKETS, BYTES, completing(), 11)?;
-    t = t.report_to(u64::MAX, PACKETS, BYTES, packets(3), 0)?;
-    Ok(t)
+pub(crate) fn count_limit(tally: &mut Tally) -> io::Result<()> {
+    let refused = Some(Refusal::Observations);
+    for (count, expected) in [
+        (999_999_999, None),
+        (MOST_COUNT, refused),
+        (1_000_000_001, refused),
+        (u64::MAX, refused),
+    ] {
+        let sums = Sums { count, ..USUAL };
+        tally.report_to(sums, completing(3), expected)?;
+        tally.report_to(sums, packets(3), None)?;
+    }
+    Ok(())
 }
 
 // What completes an observation, and so gets 11, and what does not
-pub(crate) fn times_at_full_count(tally: Tally) -> io::Result<Tally> {
-    let full = controller(tally.use_byte_loss_ratio, MOST_COUNT, PACKETS, BYTES);
-    let mut report = packets(3);
-    let mut t = tally;
-    // 250 ms
-    report.time = 10_250_000_000;
-    t = t.report_to(MOST_COUNT, PACKETS, BYTES, report, 0)?;
-    report.time = LATEST;
-    t = t.report_to(MOST_COUNT, PACKETS, BYTES, report, 11)?;
-    // A late report
-    report.time = 0;
-    t = t.report_to(MOST_COUNT, PACKETS, BYTES, report, 0)?;
-    let answer = send(completing(), without_reference(full));
-    t = t.judged(b"the first report", without_reference(full), answer, 0)?;
-    let answer = send(completing(), without_estimate(full));
-    t = t.judged(b"without an estimate", without_estimate(full), answer, 11)?;
-    Ok(t)
+pub(crate) fn times_at_full_count(tally: &mut Tally) -> io::Result<()> {
+    let refused = Some(Refusal::Observations);
+    let sums = Sums {
+        count: MOST_COUNT,
+        ..USUAL
+    };
+    // 250 ms, and a late report
+    for (time, expected) in [(10_250_000_000, None), (LATEST, refused), (0, None)] {
+        let mut report = packets(3);
+        report.times.value = time;
+        tally.report_to(sums, report, expected)?;
+    }
+    let full = controller(tally.use_byte_loss_ratio, sums);
+    let first = without_reference(full);
+    tally.judge("the first report", first, send(completing(3), first), None)?;
+    let unset = without_estimate(full);
+    let answer = send(completing(3), unset);
+    tally.judge("without an estimate", unset, answer, refused)
 }
 
 // ---- a report without packets: never 10 or 11
 
-pub(crate) fn empty_reports(tally: Tally) -> io::Result<Tally> {
-    let mut t = tally;
-    t = t.report(packets(0), 0)?;
-    t = t.report_to(COUNT, PACKETS, MOST_BYTES, packets(0), 0)?;
-    t = t.report_to(COUNT, MOST_PACKETS, BYTES, packets(0), 0)?;
-    t = t.report_to(MOST_COUNT, PACKETS, BYTES, packets(0), 0)?;
-    t = t.report_to(MOST_COUNT, MOST_PACKETS, MOST_BYTES, packets(0), 0)?;
-    t = t.report_to(u64::MAX, u64::MAX, u64::MAX, packets(0), 0)?;
+pub(crate) fn empty_reports(tally: &mut Tally) -> io::Result<()> {
+    tally.report(packets(0), None)?;
+    let full = Sums {
+        count: MOST_COUNT,
+        packets: MOST_PACKETS,
+        bytes: MOST_BYTES,
+    };
+    for sums in [
+        Sums {
+            bytes: MOST_BYTES,
+            ..USUAL
+        },
+        Sums {
+            packets: MOST_PACKETS,
+            ..USUAL
+        },
+        Sums {
+            count: MOST_COUNT,
+            ..USUAL
+        },
+        full,
+        Sums {
+            count: u64::MAX,
+            packets: u64::MAX,
+            bytes: u64::MAX,
+        },
+    ] {
+        tally.report_to(sums, packets(0), None)?;
+    }
     let mut negative = packets(0);
     negative.delay = -1.0;
-    t = t.report_to(MOST_COUNT, MOST_PACKETS, MOST_BYTES, negative, 2)?;
-    Ok(t)
+    tally.report_to(full, negative, Some(Refusal::Rate))
 }

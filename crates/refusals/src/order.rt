@@ -1,148 +1,138 @@
 // The order of the codes of a report.
-use crate::controllers::controller;
-use crate::print::field;
-use crate::reports::{completing, marked, packets, send, with_code};
-use crate::values::{
-    BYTES, COMPLETING, COUNT, DELAY, MOST_BYTES, MOST_COUNT, MOST_PACKETS, NOWHERE, PACKETS,
-};
+use crate::controllers::{Sums, USUAL, controller};
+use crate::reports::{Report, completing, marked, packets, send, with_reason};
+use crate::values::{COMPLETING, DELAY, MOST_BYTES, MOST_COUNT, MOST_PACKETS};
 use crate::verdict::Tally;
+use refusal::Refusal;
 use std::io;
 
-pub(crate) fn alone(tally: Tally) -> io::Result<Tally> {
-    let mut t = tally;
-    t = t.report(packets(3), 0)?;
-    t = t.report(completing(), 0)?;
-    t = t.pair(4, 0, 4)?;
-    t = t.pair(5, 0, 5)?;
-    t = t.pair(2, 0, 2)?;
-    t = t.pair(3, 0, 3)?;
-    t = t.pair(17, 0, 17)?;
-    t = t.pair(8, 0, 8)?;
-    t = t.pair(10, 0, 10)?;
-    t = t.pair(11, 0, 11)?;
-    Ok(t)
+// What a report is refused for, in document 01's order
+const REASONS: [Refusal; 8] = [
+    Refusal::UnequalColumns,
+    Refusal::TooManyPackets,
+    Refusal::Rate,
+    Refusal::Time,
+    Refusal::PacketSize,
+    Refusal::Flag,
+    Refusal::RunningSums,
+    Refusal::Observations,
+];
+
+pub(crate) fn alone(tally: &mut Tally) -> io::Result<()> {
+    tally.report(packets(3), None)?;
+    tally.report(completing(3), None)?;
+    for reason in REASONS {
+        tally.pair(reason, None)?;
+    }
+    Ok(())
 }
 
-pub(crate) fn pairs(tally: Tally) -> io::Result<Tally> {
-    let mut t = tally;
-    t = t.pair(4, 5, 4)?;
-    t = t.pair(4, 2, 4)?;
-    t = t.pair(4, 3, 4)?;
-    t = t.pair(4, 17, 4)?;
-    t = t.pair(4, 8, 4)?;
-    t = t.pair(4, 10, 4)?;
-    t = t.pair(4, 11, 4)?;
-    t = t.pair(5, 2, 5)?;
-    t = t.pair(5, 3, 5)?;
-    t = t.pair(5, 17, 5)?;
-    t = t.pair(5, 8, 5)?;
-    t = t.pair(5, 10, 5)?;
-    t = t.pair(5, 11, 5)?;
-    t = t.pair(2, 3, 2)?;
-    t = t.pair(2, 17, 2)?;
-    t = t.pair(2, 8, 2)?;
-    t = t.pair(2, 10, 2)?;
-    t = t.pair(2, 11, 2)?;
-    t = t.pair(3, 17, 3)?;
-    t = t.pair(3, 8, 3)?;
-    t = t.pair(3, 10, 3)?;
-    t = t.pair(3, 11, 3)?;
-    t = t.pair(17, 8, 17)?;
-    t = t.pair(17, 10, 17)?;
-    t = t.pair(17, 11, 17)?;
-    t = t.pair(8, 10, 8)?;
-    t = t.pair(8, 11, 8)?;
-    t = t.pair(10, 11, 10)?;
+pub(crate) fn pairs(tally: &mut Tally) -> io::Result<()> {
+    for (i, first) in REASONS.iter().enumerate() {
+        for second in &REASONS[i + 1..] {
+            tally.pair(*first, Some(*second))?;
+        }
+    }
     // 10 by packets
-    t = t.report_to(MOST_COUNT, MOST_PACKETS, BYTES, completing(), 10)?;
-    Ok(t)
+    let full = Sums {
+        count: MOST_COUNT,
+        packets: MOST_PACKETS,
+        ..USUAL
+    };
+    tally.report_to(full, completing(3), Some(Refusal::RunningSums))
 }
 
 // All codes at once, 4 by the flags and by the sizes; then each time the first of them goes.
-pub(crate) fn chain(tally: Tally) -> io::Result<Tally> {
-    let mut report = marked(1, 1, 1);
-    report.time = COMPLETING;
+pub(crate) fn chain(tally: &mut Tally) -> io::Result<()> {
+    let full = Sums {
+        count: MOST_COUNT,
+        packets: MOST_PACKETS,
+        bytes: MOST_BYTES,
+    };
+    let mut report = marked(Some(1), Some(1), Some(1));
+    report.times.value = COMPLETING;
     report.delay = -1.0;
-    report.times = 4_097;
-    report.sizes = 4_097;
-    let mut t = tally;
-    t = t.report_to(MOST_COUNT, MOST_PACKETS, MOST_BYTES, report, 4)?;
-    report.sizes = 3;
-    report.flags = 4_097;
-    t = t.report_to(MOST_COUNT, MOST_PACKETS, MOST_BYTES, report, 4)?;
-    report.sizes = 4_097;
-    t = t.report_to(MOST_COUNT, MOST_PACKETS, MOST_BYTES, report, 5)?;
-    report.times = 3;
-    report.sizes = 3;
-    report.flags = 3;
-    t = t.report_to(MOST_COUNT, MOST_PACKETS, MOST_BYTES, report, 2)?;
+    report.times.length = 4_097;
+    report.sizes.length = 4_097;
+    tally.report_to(full, report, Some(Refusal::UnequalColumns))?;
+    report.sizes.length = 3;
+    report.flags.length = 4_097;
+    tally.report_to(full, report, Some(Refusal::UnequalColumns))?;
+    report.sizes.length = 4_097;
+    tally.report_to(full, report, Some(Refusal::TooManyPackets))?;
+    report.times.length = 3;
+    report.sizes.length = 3;
+    report.flags.length = 3;
+    tally.report_to(full, report, Some(Refusal::Rate))?;
     report.delay = DELAY;
-    t = t.report_to(MOST_COUNT, MOST_PACKETS, MOST_BYTES, report, 3)?;
-    report.odd_time_at = NOWHERE;
-    t = t.report_to(MOST_COUNT, MOST_PACKETS, MOST_BYTES, report, 17)?;
-    report.odd_size_at = NOWHERE;
-    t = t.report_to(MOST_COUNT, MOST_PACKETS, MOST_BYTES, report, 8)?;
-    report.odd_flag_at = NOWHERE;
-    t = t.report_to(MOST_COUNT, MOST_PACKETS, MOST_BYTES, report, 10)?;
-    t = t.report_to(MOST_COUNT, PACKETS, BYTES, report, 11)?;
-    Ok(t)
+    tally.report_to(full, report, Some(Refusal::Time))?;
+    report.times.odd_at = None;
+    tally.report_to(full, report, Some(Refusal::PacketSize))?;
+    report.sizes.odd_at = None;
+    tally.report_to(full, report, Some(Refusal::Flag))?;
+    report.flags.odd_at = None;
+    tally.report_to(full, report, Some(Refusal::RunningSums))?;
+    let count = Sums {
+        count: MOST_COUNT,
+        ..USUAL
+    };
+    tally.report_to(count, report, Some(Refusal::Observations))
 }
 
 // The first packet that has a code wins, and in one packet 3 comes before 17, and 17 before 8.
-pub(crate) fn packet_by_packet(tally: Tally) -> io::Result<Tally> {
-    let mut t = tally;
-    t = t.report(marked(0, NOWHERE, 0), 3)?;
-    t = t.report(marked(0, NOWHERE, 1), 3)?;
-    t = t.report(marked(0, NOWHERE, 2), 3)?;
-    t = t.report(marked(1, NOWHERE, 2), 3)?;
-    t = t.report(marked(1, NOWHERE, 0), 8)?;
-    t = t.report(marked(2, NOWHERE, 0), 8)?;
-    t = t.report(marked(2, NOWHERE, 1), 8)?;
-    t = t.report(marked(2, NOWHERE, 2), 3)?;
-    t = t.report(marked(0, 0, NOWHERE), 3)?;
-    t = t.report(marked(0, 1, NOWHERE), 3)?;
-    t = t.report(marked(1, 0, NOWHERE), 17)?;
-    t = t.report(marked(2, 2, NOWHERE), 3)?;
-    t = t.report(marked(NOWHERE, 0, 0), 17)?;
-    t = t.report(marked(NOWHERE, 0, 1), 17)?;
-    t = t.report(marked(NOWHERE, 1, 0), 8)?;
-    t = t.report(marked(NOWHERE, 2, 2), 17)?;
-    t = t.report(marked(0, 0, 0), 3)?;
-    t = t.report(marked(2, 2, 2), 3)?;
-    t = t.report(marked(0, 1, 2), 3)?;
-    t = t.report(marked(0, 2, 1), 3)?;
-    t = t.report(marked(1, 0, 2), 17)?;
-    t = t.report(marked(2, 0, 1), 17)?;
-    t = t.report(marked(1, 2, 0), 8)?;
-    t = t.report(marked(2, 1, 0), 8)?;
-    t = t.report(marked(2, NOWHERE, NOWHERE), 3)?;
-    t = t.report(marked(NOWHERE, 2, NOWHERE), 17)?;
-    t = t.report(marked(NOWHERE, NOWHERE, 2), 8)?;
-    Ok(t)
+pub(crate) fn packet_by_packet(tally: &mut Tally) -> io::Result<()> {
+    for (time, size, flag, expected) in [
+        (Some(0), None, Some(0), Refusal::Time),
+        (Some(0), None, Some(1), Refusal::Time),
+        (Some(0), None, Some(2), Refusal::Time),
+        (Some(1), None, Some(2), Refusal::Time),
+        (Some(1), None, Some(0), Refusal::Flag),
+        (Some(2), None, Some(0), Refusal::Flag),
+        (Some(2), None, Some(1), Refusal::Flag),
+        (Some(2), None, Some(2), Refusal::Time),
+        (Some(0), Some(0), None, Refusal::Time),
+        (Some(0), Some(1), None, Refusal::Time),
+        (Some(1), Some(0), None, Refusal::PacketSize),
+        (Some(2), Some(2), None, Refusal::Time),
+        (None, Some(0), Some(0), Refusal::PacketSize),
+        (None, Some(0), Some(1), Refusal::PacketSize),
+        (None, Some(1), Some(0), Refusal::Flag),
+        (None, Some(2), Some(2), Refusal::PacketSize),
+        (Some(0), Some(0), Some(0), Refusal::Time),
+        (Some(2), Some(2), Some(2), Refusal::Time),
+        (Some(0), Some(1), Some(2), Refusal::Time),
+        (Some(0), Some(2), Some(1), Refusal::Time),
+        (Some(1), Some(0), Some(2), Refusal::PacketSize),
+        (Some(2), Some(0), Some(1), Refusal::PacketSize),
+        (Some(1), Some(2), Some(0), Refusal::Flag),
+        (Some(2), Some(1), Some(0), Refusal::Flag),
+        (Some(2), None, None, Refusal::Time),
+        (None, Some(2), None, Refusal::PacketSize),
+        (None, None, Some(2), Refusal::Flag),
+    ] {
+        tally.report(marked(time, size, flag), Some(expected))?;
+    }
+    Ok(())
 }
 
 impl Tally {
-    // A report that has both codes, from its packets or from the controller. 0 is none.
-    fn pair(self, first: u8, second: u8, expected: u8) -> io::Result<Tally> {
-        let out = &self.out;
-        field(out, b"codes ", first as u64)?;
-        field(out, b" and ", second as u64)?;
-        let report = with_code(packets(3), second);
-        let both = with_code(report, first);
-        let size = value_for(10, first, second, MOST_BYTES, BYTES);
-        let count = value_for(11, first, second, MOST_COUNT, COUNT);
-        let start = controller(self.use_byte_loss_ratio, count, PACKETS, size);
-        self.judged(b"", start, send(both, start), expected)
+    // A report that has both reasons, from its packets or from the controller, and gets the first.
+    fn pair(&mut self, first: Refusal, second: Option<Refusal>) -> io::Result<()> {
+        let mut sums = USUAL;
+        if first == Refusal::RunningSums || second == Some(Refusal::RunningSums) {
+            sums.bytes = MOST_BYTES;
+        }
+        if first == Refusal::Observations || second == Some(Refusal::Observations) {
+            sums.count = MOST_COUNT;
+        }
+        let mut report = packets(3);
+        if let Some(reason) = second {
+            report = with_reason(report, reason);
+        }
+        let start = controller(self.use_byte_loss_ratio, sums);
+        let answer = send(with_reason(report, first), start);
+        let codes = (u8::from(first), second.map_or(0, u8::from));
+        let case = format_args!("codes {} and {}", codes.0, codes.1);
+        self.judge(case, start, answer, Some(first))
     }
-}
-
-// The limit where one of the two codes is the one that it earns.
-fn value_for(code: u8, first: u8, second: u8, limit: u64, usual: u64) -> u64 {
-    if first == code {
-        return limit;
-    }
-    if second == code {
-        return limit;
-    }
-    usual
 }

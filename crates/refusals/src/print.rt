@@ -1,28 +1,12 @@
-// Numbers and texts on standard output.
-use std::io;
+// A float by its bits.
+use std::fmt;
 
-pub(crate) fn print_state(
-    out: &impl Print,
-    count: u64,
-    num_packets: u64,
-    size: u64,
-) -> io::Result<()> {
-    field(out, b"count ", count)?;
-    field(out, b", packets ", num_packets)?;
-    field(out, b", bytes ", size)?;
-    text(out, b", ")
-}
+#[derive(Clone, Copy)]
+pub(crate) struct Bits(pub(crate) f64);
 
-pub(crate) fn field(out: &impl Print, label: &[u8], n: u64) -> io::Result<()> {
-    text(out, label)?;
-    print!(out; "{n}")
-}
-
-pub(crate) fn print_bits(out: &impl Print, x: f64) -> io::Result<()> {
-    let bits = float::to_bits(x);
-    print!(out; "{bits:016x}")
-}
-
-pub(crate) fn text(out: &impl Print, bytes: &[u8]) -> io::Result<()> {
-    out.write_all(bytes)
+impl fmt::Display for Bits {
+    fn fmt<W: fmt::Write>(&self, f: &mut fmt::Formatter<W>) -> fmt::Result {
+        let bits = float::to_bits(self.0);
+        write!(f, "{bits:016x}")
+    }
 }

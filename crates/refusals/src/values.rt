@@ -16,14 +16,7 @@ pub(crate) const MOST_PACKETS: u64 = 1_000_000_000;
 
 pub(crate) const MOST_COUNT: u64 = 1_000_000_000;
 
-// The controllers' running sums and count, where a case asks for no other.
-pub(crate) const BYTES: u64 = 5_000;
-
-pub(crate) const PACKETS: u64 = 5;
-
-pub(crate) const COUNT: u64 = 40;
-
-// The time that their spans are counted from, and times 100 ms and 250 ms + 1 ns after it.
+// The time that the controllers' spans are counted from, and times 100 ms and 250 ms + 1 ns after it.
 pub(crate) const REFERENCE: u64 = 10_000_000_000;
 
 pub(crate) const SOON: u64 = 10_100_000_000;
@@ -32,6 +25,3 @@ pub(crate) const COMPLETING: u64 = 10_250_000_001;
 
 // A delay estimate that they do not hold.
 pub(crate) const DELAY: f64 = 1.8e6;
-
-// A place behind every column.
-pub(crate) const NOWHERE: usize = 4_097;

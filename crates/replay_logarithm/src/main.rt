@@ -3,49 +3,34 @@
 // bits. oracle/README.md says what the letters are and how the stored answers were made.
 #![tactic(auto)]
 
-use float::FloatAnswer;
+use refusal::Refusal;
 use std::io;
+use streams::Lines;
 
 fn main(rt: HostRuntime) -> io::Result<()> {
-    // Nothing says that the input ends, so the lines are counted.
-    for _ in 0..u64::MAX {
-        if !replay_line(rt)? {
-            break;
+    for line in Lines::<_, 19>::new(rt.stdin()) {
+        let line = line?;
+        let operand = hexadecimal::number(&line[2..18]);
+        match line[0] {
+            b'l' => print(&rt, logarithm::ln(float::from_bits(operand)))?,
+            b'w' => print(&rt, Ok(logarithm::weight(operand)))?,
+            _ => replay_power(rt, float::from_bits(operand))?,
         }
     }
     Ok(())
 }
 
-// Answers one line, if there is a whole one.
-fn replay_line(rt: HostRuntime) -> io::Result<bool> {
-    let mut line = [0u8; 19];
-    if !streams::read_line(&mut rt.stdin(), &mut line)? {
-        return Ok(false);
-    }
-    let operand = hexadecimal::number(&line[2..18]);
-    match line[0] {
-        b'l' => print(rt, logarithm::ln(float::from_bits(operand))),
-        b'w' => print(rt, taken(logarithm::weight(operand))),
-        _ => replay_power(rt, float::from_bits(operand)),
-    }
-}
-
 // The exponent is what is left of the line.
-fn replay_power(rt: HostRuntime, base: f64) -> io::Result<bool> {
-    let mut rest = [0u8; 9];
-    if !streams::read_line(&mut rt.stdin(), &mut rest)? {
-        return Ok(false);
-    }
+fn replay_power(rt: HostRuntime, base: f64) -> io::Result<()> {
+    let Some(rest) = streams::read_line::<_, 9>(&mut rt.stdin())? else {
+        return Ok(());
+    };
     let exponent = hexadecimal::number(&rest[0..8]) % 0x1_0000_0000;
-    print(rt, taken(logarithm::powi(base, exponent as u32)))
+    print(&rt, Ok(logarithm::powi(base, exponent as u32)))
 }
 
-fn taken(value: f64) -> FloatAnswer {
-    FloatAnswer { value, refusal: 0 }
-}
-
-fn print(rt: HostRuntime, answer: FloatAnswer) -> io::Result<bool> {
-    let bits = float::to_bits(answer.value);
-    println!(rt; "{:x} {bits:016x}", answer.refusal)?;
-    Ok(true)
+fn print(out: &impl Print, answer: Result<f64, Refusal>) -> io::Result<()> {
+    let refusal = answer.err().map_or(0, u8::from);
+    let bits = float::to_bits(answer.unwrap_or(0.0));
+    println!(out; "{refusal:x} {bits:016x}")
 }

@@ -1,5 +1,5 @@
 // The state and the report of a line, field by field.
-use bandwidth::{Bitrate, OptionBitrate};
+use bandwidth::Bitrate;
 use duration::Duration;
 use estimator::{Estimator, HoldInfo, LossControllerState, Recovery};
 use likelihood::ChannelParameters;
@@ -8,33 +8,37 @@ use packets::PacketResultsSummary;
 use std::io::{self, Stdin};
 use time::Timestamp;
 
+// The parts of the controller that the steps read
+#[derive(Clone, Copy)]
+pub(crate) struct State {
+    pub(crate) observations: Observations,
+    pub(crate) estimator: Estimator,
+    pub(crate) settings: Settings,
+}
+
 // What the setters and the report set.
 #[derive(Clone, Copy)]
 pub(crate) struct Settings {
     pub(crate) acknowledged_bitrate: Bitrate,
     pub(crate) delay_based_estimate: Bitrate,
     pub(crate) in_alr: bool,
-    pub(crate) link_capacity_estimate: OptionBitrate,
+    pub(crate) link_capacity_estimate: Option<Bitrate>,
 }
 
-// An input that ends before leaves the rest of the field's bytes at zero, which are no digits.
+// An input that ends before has 0.
 fn field(input: &mut Stdin) -> io::Result<u64> {
-    let mut text = [0u8; 17];
-    streams::read_line(input, &mut text)?;
-    Ok(hexadecimal::number(&text[0..16]))
+    let text = streams::read_line::<_, 17>(input)?;
+    Ok(text.map_or(0, |text| hexadecimal::number(&text[0..16])))
 }
 
 fn read_rate(input: &mut Stdin) -> io::Result<Bitrate> {
     Ok(stored_fields::rate(field(input)?))
 }
 
-fn read_option(input: &mut Stdin) -> io::Result<OptionBitrate> {
+fn read_option(input: &mut Stdin) -> io::Result<Option<Bitrate>> {
     let case = field(input)?;
     let rate = read_rate(input)?;
-    if case == 1 {
-        return Ok(OptionBitrate::Some(rate));
-    }
-    Ok(OptionBitrate::None)
+    Ok((case == 1).then_some(rate))
 }
 
 fn read_time(input: &mut Stdin) -> io::Result<Timestamp> {
@@ -60,7 +64,18 @@ pub(crate) fn state_of(number: u64) -> LossControllerState {
     }
 }
 
-pub(crate) fn read_observations(input: &mut Stdin) -> io::Result<Observations> {
+pub(crate) fn read_state(input: &mut Stdin, state: LossControllerState) -> io::Result<State> {
+    let observations = read_observations(input)?;
+    let estimator = read_estimator(input, state)?;
+    let settings = read_settings(input)?;
+    Ok(State {
+        observations,
+        estimator,
+        settings,
+    })
+}
+
+fn read_observations(input: &mut Stdin) -> io::Result<Observations> {
     let use_byte_loss_ratio = field(input)? == 1;
     let num_observations = field(input)?;
     let partial_observation = read_partial(input)?;
@@ -91,22 +106,11 @@ fn read_partial(input: &mut Stdin) -> io::Result<PartialObservation> {
 }
 
 fn read_window(input: &mut Stdin) -> io::Result<[Observation; 15]> {
-    let a = read_observation(input)?;
-    let b = read_observation(input)?;
-    let c = read_observation(input)?;
-    let d = read_observation(input)?;
-    let e = read_observation(input)?;
-    let f = read_observation(input)?;
-    let g = read_observation(input)?;
-    let h = read_observation(input)?;
-    let i = read_observation(input)?;
-    let j = read_observation(input)?;
-    let k = read_observation(input)?;
-    let l = read_observation(input)?;
-    let m = read_observation(input)?;
-    let n = read_observation(input)?;
-    let o = read_observation(input)?;
-    Ok([a, b, c, d, e, f, g, h, i, j, k, l, m, n, o])
+    let mut window = [Observation::DUMMY; 15];
+    for observation in &mut window {
+        *observation = read_observation(input)?;
+    }
+    Ok(window)
 }
 
 fn read_observation(input: &mut Stdin) -> io::Result<Observation> {
@@ -130,10 +134,7 @@ fn read_observation(input: &mut Stdin) -> io::Result<Observation> {
     })
 }
 
-pub(crate) fn read_estimator(
-    input: &mut Stdin,
-    state: LossControllerState,
-) -> io::Result<Estimator> {
+fn read_estimator(input: &mut Stdin, state: LossControllerState) -> io::Result<Estimator> {
     let current_estimate = read_parameters(input)?;
     let last_hold_info = read_hold(input)?;
     let last_time_estimate_reduced = read_time(input)?;
@@ -167,7 +168,7 @@ fn read_recovery(input: &mut Stdin) -> io::Result<Recovery> {
     })
 }
 
-pub(crate) fn read_settings(input: &mut Stdin) -> io::Result<Settings> {
+fn read_settings(input: &mut Stdin) -> io::Result<Settings> {
     let acknowledged_bitrate = read_rate(input)?;
     let delay_based_estimate = read_rate(input)?;
     let in_alr = field(input)? == 1;

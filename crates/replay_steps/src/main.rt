@@ -9,40 +9,19 @@ mod print;
 mod report;
 mod steps;
 
-use crate::fields::{read_estimator, read_observations, read_settings, read_summary, state_of};
-use crate::report::print_report;
-use crate::steps::{bounds, print_candidates, print_likelihood, print_window};
+use crate::fields::{read_state, read_summary, state_of};
 use std::io;
+use streams::Lines;
 
 fn main(rt: HostRuntime) -> io::Result<()> {
-    // Nothing says that the input ends, so the lines are counted.
-    for _ in 0..u64::MAX {
-        if !replay_line(rt)? {
-            break;
-        }
+    let input = &mut rt.stdin();
+    for first in Lines::<_, 17>::new(rt.stdin()) {
+        let state = read_state(input, state_of(hexadecimal::number(&first?[0..16])))?;
+        let summary = read_summary(input)?;
+        state.print_window(&rt)?;
+        state.print_likelihood(&rt)?;
+        state.print_candidates(&rt)?;
+        state.print_report(&rt, summary)?;
     }
     Ok(())
-}
-
-// Answers one line, if there is a whole one.
-fn replay_line(rt: HostRuntime) -> io::Result<bool> {
-    let mut first = [0u8; 17];
-    let input = &mut rt.stdin();
-    if !streams::read_line(input, &mut first)? {
-        return Ok(false);
-    }
-    let state = state_of(hexadecimal::number(&first[0..16]));
-    let observations = read_observations(input)?;
-    let estimator = read_estimator(input, state)?;
-    let settings = read_settings(input)?;
-    let summary = read_summary(input)?;
-    print_window(&rt, observations)?;
-    print_likelihood(&rt, observations, estimator.current_estimate)?;
-    print_candidates(
-        &rt,
-        bounds(observations, estimator, settings),
-        estimator.current_estimate,
-    )?;
-    print_report(&rt, observations, estimator, settings, summary)?;
-    Ok(true)
 }

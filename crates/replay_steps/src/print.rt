@@ -1,50 +1,103 @@
 // Values on standard output, each in its fields.
-use bandwidth::{Bitrate, OptionBitrate, RateAnswer};
-use float::FloatAnswer;
+use bandwidth::Bitrate;
+use duration::Duration;
+use estimator::{HoldInfo, LossControllerState, Recovery};
 use likelihood::ChannelParameters;
+use observation::PartialObservation;
+use refusal::Refusal;
 use std::io;
 use time::Timestamp;
 
-pub(crate) fn number(out: &impl Print, n: u64) -> io::Result<()> {
-    print!(out; "{n:016x} ")
+pub(crate) trait Fields {
+    fn print(self, out: &impl Print) -> io::Result<()>;
 }
 
-pub(crate) fn print_bool(out: &impl Print, is_true: bool) -> io::Result<()> {
-    if is_true {
-        return number(out, 1);
+impl Fields for u64 {
+    fn print(self, out: &impl Print) -> io::Result<()> {
+        print!(out; "{self:016x} ")
     }
-    number(out, 0)
 }
 
-pub(crate) fn print_float(out: &impl Print, x: f64) -> io::Result<()> {
-    number(out, float::to_bits(x))
+impl Fields for bool {
+    fn print(self, out: &impl Print) -> io::Result<()> {
+        u64::from(self).print(out)
+    }
 }
 
-pub(crate) fn print_rate(out: &impl Print, rate: Bitrate) -> io::Result<()> {
-    number(out, stored_fields::rate_bits(rate))
+impl Fields for f64 {
+    fn print(self, out: &impl Print) -> io::Result<()> {
+        float::to_bits(self).print(out)
+    }
 }
 
-pub(crate) fn print_refusable(out: &impl Print, answer: FloatAnswer) -> io::Result<()> {
-    number(out, answer.refusal as u64)?;
-    print_float(out, answer.value)
+impl Fields for Bitrate {
+    fn print(self, out: &impl Print) -> io::Result<()> {
+        stored_fields::rate_bits(self).print(out)
+    }
 }
 
-pub(crate) fn print_refusable_rate(out: &impl Print, answer: RateAnswer) -> io::Result<()> {
-    number(out, answer.refusal as u64)?;
-    print_rate(out, answer.rate)
+impl Fields for Option<Bitrate> {
+    fn print(self, out: &impl Print) -> io::Result<()> {
+        stored_fields::option_case(self).print(out)?;
+        stored_fields::option_bits(self).print(out)
+    }
 }
 
-pub(crate) fn print_option(out: &impl Print, rate: OptionBitrate) -> io::Result<()> {
-    number(out, stored_fields::option_case(rate))?;
-    number(out, stored_fields::option_bits(rate))
+// The refusal, and the value, which is zero beside one.
+impl<T: Fields + Drop> Fields for Result<T, Refusal> {
+    fn print(self, out: &impl Print) -> io::Result<()> {
+        match self {
+            Ok(value) => {
+                0u64.print(out)?;
+                value.print(out)
+            }
+            Err(refusal) => {
+                u64::from(u8::from(refusal)).print(out)?;
+                0u64.print(out)
+            }
+        }
+    }
 }
 
-pub(crate) fn print_time(out: &impl Print, time: Timestamp) -> io::Result<()> {
-    number(out, stored_fields::timestamp_case(time))?;
-    number(out, stored_fields::timestamp_ns(time))
+impl Fields for Duration {
+    fn print(self, out: &impl Print) -> io::Result<()> {
+        self.nanos.print(out)
+    }
 }
 
-pub(crate) fn print_parameters(out: &impl Print, parameters: ChannelParameters) -> io::Result<()> {
-    print_float(out, parameters.inherent_loss)?;
-    print_rate(out, parameters.loss_limited_bandwidth)
+impl Fields for Timestamp {
+    fn print(self, out: &impl Print) -> io::Result<()> {
+        stored_fields::timestamp_case(self).print(out)?;
+        stored_fields::timestamp_ns(self).print(out)
+    }
+}
+
+impl Fields for ChannelParameters {
+    fn print(self, out: &impl Print) -> io::Result<()> {
+        self.inherent_loss.print(out)?;
+        self.loss_limited_bandwidth.print(out)
+    }
+}
+
+impl Fields for PartialObservation {
+    fn print(self, out: &impl Print) -> io::Result<()> {
+        self.num_packets.print(out)?;
+        self.num_lost_packets.print(out)?;
+        self.size.print(out)?;
+        self.lost_size.print(out)
+    }
+}
+
+impl Fields for LossControllerState {
+    fn print(self, out: &impl Print) -> io::Result<()> {
+        u64::from(u8::from(self)).print(out)
+    }
+}
+
+impl Fields for HoldInfo {
+    fn print(self, out: &impl Print) -> io::Result<()> {
+        self.timestamp.print(out)?;
+        self.duration.print(out)?;
+        self.rate.print(out)
+    }
 }

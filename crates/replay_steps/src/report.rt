@@ -1,113 +1,84 @@
 // The report, and the state after it.
-use crate::fields::Settings;
-use crate::print::{number, print_bool, print_option, print_parameters, print_rate, print_time};
-use crate::steps::bounds;
-use estimator::{Estimator, EstimatorAnswer, HoldInfo, Report};
-use observation::{AddedAnswer, Observations};
+use crate::fields::State;
+use crate::print::Fields;
+use estimator::Report;
 use packets::PacketResultsSummary;
+use refusal::Refusal;
 use std::io;
 
-pub(crate) fn print_report(
-    out: &impl Print,
-    observations: Observations,
-    estimator: Estimator,
-    settings: Settings,
-    summary: PacketResultsSummary,
-) -> io::Result<()> {
-    let slot = (observations.num_observations % 15) as usize;
-    let added = observations.maybe_add_observation(summary);
-    let updated = updated(added, estimator, settings);
-    let refusal = updated.refusal;
-    number(out, refusal as u64)?;
-    if refusal != 0 {
-        return print_state(out, observations, estimator, slot);
+impl State {
+    pub(crate) fn print_report(
+        self,
+        out: &impl Print,
+        summary: PacketResultsSummary,
+    ) -> io::Result<()> {
+        let slot = (self.observations.num_observations % 15) as usize;
+        let answer = self.reported(summary);
+        let refusal = answer.err().map_or(0, u8::from);
+        u64::from(refusal).print(out)?;
+        answer.unwrap_or(self).print(out, slot)
     }
-    print_state(out, added.observations, updated.estimator, slot)
-}
 
-// What `update_bandwidth_estimate` does with the estimate once the report is added.
-fn updated(added: AddedAnswer, estimator: Estimator, settings: Settings) -> EstimatorAnswer {
-    let unchanged = EstimatorAnswer {
-        estimator,
-        refusal: added.refusal,
-    };
-    if !added.completed {
-        return unchanged;
+    // What `update_bandwidth_estimate` does with the observations and the estimate.
+    fn reported(self, summary: PacketResultsSummary) -> Result<State, Refusal> {
+        let added = self.observations.maybe_add_observation(summary)?;
+        let observations = added.observations;
+        let observed = State {
+            observations,
+            ..self
+        };
+        let current = self.estimator.current_estimate;
+        if !added.completed || !current.loss_limited_bandwidth.is_valid() {
+            return Ok(observed);
+        }
+        let ratio = observations.average_reported_loss_ratio()?;
+        let best = candidates::choose(
+            observations.use_byte_loss_ratio,
+            current,
+            candidates::get_candidates(current, observed.bounds()),
+            observations.rows()?,
+            ratio,
+        )?;
+        let report = Report {
+            average_reported_loss_ratio: ratio,
+            acknowledged_bitrate: self.settings.acknowledged_bitrate,
+            delay_based_estimate: self.settings.delay_based_estimate,
+            last_send_time: observations.last_send_time_most_recent_observation,
+        };
+        let estimator = self.estimator.apply_best_candidate(best, report)?;
+        Ok(State {
+            estimator,
+            ..observed
+        })
     }
-    let current = estimator.current_estimate;
-    let rate = current.loss_limited_bandwidth;
-    if !rate.is_valid() {
-        return unchanged;
+
+    // With the packets and the sending rate in a slot of the window.
+    fn print(self, out: &impl Print, slot: usize) -> io::Result<()> {
+        let estimator = self.estimator;
+        estimator.state.print(out)?;
+        self.print_observations(out, slot)?;
+        estimator.current_estimate.print(out)?;
+        estimator.last_hold_info.print(out)?;
+        estimator.last_time_estimate_reduced.print(out)?;
+        let recovery = estimator.recovery;
+        recovery.recovering_after_loss_timestamp.print(out)?;
+        let limit = stored_fields::rate_bits(recovery.bandwidth_limit_in_current_window);
+        println!(out; "{limit:016x}")
     }
-    let observations = added.observations;
-    let rows = observations.rows();
-    let rows = rows.rows;
-    let ratio = observations.average_reported_loss_ratio();
-    let ratio = ratio.value;
-    let candidates = candidates::get_candidates(current, bounds(observations, estimator, settings));
-    let use_bytes = observations.use_byte_loss_ratio;
-    let choice = candidates::choose(use_bytes, current, candidates, rows, ratio);
-    let refusal = choice.refusal;
-    if refusal != 0 {
-        return EstimatorAnswer { estimator, refusal };
+
+    fn print_observations(self, out: &impl Print, slot: usize) -> io::Result<()> {
+        let observations = self.observations;
+        observations.use_byte_loss_ratio.print(out)?;
+        observations.num_observations.print(out)?;
+        observations.partial_observation.print(out)?;
+        observations
+            .last_send_time_most_recent_observation
+            .print(out)?;
+        observations.cached_instant_upper_bound.print(out)?;
+        let observation = observations.observations[slot % 15];
+        observation.num_packets.print(out)?;
+        observation.num_lost_packets.print(out)?;
+        observation.num_received_packets.print(out)?;
+        observation.sending_rate.print(out)
     }
-    let last_send_time = observations.last_send_time_most_recent_observation;
-    let acknowledged_bitrate = settings.acknowledged_bitrate;
-    let delay_based_estimate = settings.delay_based_estimate;
-    let report = Report {
-        average_reported_loss_ratio: ratio,
-        acknowledged_bitrate,
-        delay_based_estimate,
-        last_send_time,
-    };
-    estimator.apply_best_candidate(choice.best, report)
-}
-
-// The state, with the packets and the sending rate in a slot of the window.
-fn print_state(
-    out: &impl Print,
-    observations: Observations,
-    estimator: Estimator,
-    slot: usize,
-) -> io::Result<()> {
-    let state = estimator.state;
-    number(out, state.number() as u64)?;
-    print_observations(out, observations, slot)?;
-    print_parameters(out, estimator.current_estimate)?;
-    print_hold(out, estimator.last_hold_info)?;
-    let reduced = estimator.last_time_estimate_reduced;
-    print_time(out, reduced)?;
-    let recovery = estimator.recovery;
-    let recovering = recovery.recovering_after_loss_timestamp;
-    print_time(out, recovering)?;
-    let limit = stored_fields::rate_bits(recovery.bandwidth_limit_in_current_window);
-    println!(out; "{limit:016x}")
-}
-
-fn print_observations(out: &impl Print, observations: Observations, slot: usize) -> io::Result<()> {
-    print_bool(out, observations.use_byte_loss_ratio)?;
-    number(out, observations.num_observations)?;
-    let partial = observations.partial_observation;
-    number(out, partial.num_packets)?;
-    number(out, partial.num_lost_packets)?;
-    number(out, partial.size)?;
-    number(out, partial.lost_size)?;
-    let last_send_time = observations.last_send_time_most_recent_observation;
-    print_time(out, last_send_time)?;
-    let cached = observations.cached_instant_upper_bound;
-    print_option(out, cached)?;
-    let window = observations.observations;
-    let observation = window[slot % 15];
-    number(out, observation.num_packets)?;
-    number(out, observation.num_lost_packets)?;
-    number(out, observation.num_received_packets)?;
-    print_rate(out, observation.sending_rate)
-}
-
-fn print_hold(out: &impl Print, hold: HoldInfo) -> io::Result<()> {
-    let timestamp = hold.timestamp;
-    print_time(out, timestamp)?;
-    let duration = hold.duration;
-    number(out, duration.nanos)?;
-    print_rate(out, hold.rate)
 }

@@ -10,7 +10,7 @@ use Rattle.call_line.specs.Column.{total}
 use Rattle.call_line.specs.Line.{wide, line_of}
 use Rattle.call_line.specs.Write.{line_text}
 use Rattle.call_line.specs.declared.Call.{Call}
-use Rattle.call_line.specs.declared.Line.TheVariants.{Taken}
+use Rattle.std.proofs.Common.{Ok}
 use Rattle.call_line.proofs.Clear.{Clear, taken_clear}
 use Rattle.call_line.proofs.Written.{taken_allowed, taken_of_type, wide_read, two_widths}
 use Rattle.call_list.specs.Whole.{last_line, lines_from, lines_of, joined}
@@ -22,7 +22,7 @@ use Rattle.rewrite.proofs.Rewriting.{none_last, last_text}
 
 -- ---- lines that are taken
 
-taken_some : (s : List ℕ) (call : Call) → line_of s ≡ Taken call → length s ≡ 0 → ⊥
+taken_some : (s : List ℕ) (call : Call) → line_of s ≡ Ok call → length s ≡ 0 → ⊥
 taken_some s call e z = ⊎_elim (λ l. omega arith) (λ l. omega arith) (two_widths s call e)
 
 -- bytes with no newline among them are a line so far
@@ -33,7 +33,7 @@ open_line (b ∷ a) l c =
     rw (ne_eqb b 10 (c zero (omega arith)))
     (open_line a (l ++ (b ∷ [])) (λ j m e. c (suc j) (omega arith) e) ∙ rw (append_assoc l (b ∷ []) a))
 
-next_text : (l : List ℕ) (call : Call) → line_of l ≡ Taken call → (t : List ℕ) → rewritten (closed l ++ t) ≡ line_text call ++ rewritten t
+next_text : (l : List ℕ) (call : Call) → line_of l ≡ Ok call → (t : List ℕ) → rewritten (closed l ++ t) ≡ line_text call ++ rewritten t
 unfolding rewritten_from joined
 next_text l call e t = rw (append_assoc l (10 ∷ []) t, clear_line l [] t (taken_clear l call e), e)
 
@@ -41,7 +41,7 @@ from_open : (l : List ℕ) → Clear l → rewritten l ≡ rewritten_from l []
 unfolding rewritten_from lines_from
 from_open l c = rw (open_line l [] c)
 
-last_written : (l : List ℕ) (call : Call) → line_of l ≡ Taken call → rewritten l ≡ line_text call
+last_written : (l : List ℕ) (call : Call) → line_of l ≡ Ok call → rewritten l ≡ line_text call
 last_written l call e = from_open l (taken_clear l call e) ∙ last_text l (taken_some l call e) ∙ rw e
 
 -- they are written, whatever follows them
@@ -78,7 +78,7 @@ same_calls ls calls h = ap (λ (s : List ℕ). map line_of (lines_of s)) (list_w
 
 -- ---- wide lines
 
-comes_back : (l : List ℕ) (call : Call) → length l ≡ total wide → line_of l ≡ Taken call → line_text call ≡ closed l
+comes_back : (l : List ℕ) (call : Call) → length l ≡ total wide → line_of l ≡ Ok call → line_text call ≡ closed l
 unfolding line_text
 comes_back l call w e = ap closed (wide_read l call w e)
 

@@ -1,16 +1,17 @@
 -- In any chunks, the program writes the texts of the lines of the whole input. Assumes nothing.
 use Prim.Native.Nat.{ℕ, ◌+◌, ◌-◌, ◌^◌, ◌≤◌, ◌<◌}
 use mathlib.Core.Path.{◌≡◌, refl, sym, ap, ◌∙◌}
-use mathlib.Core.Bool.{Bool, true, false, true≢false}
+use mathlib.Core.Bool.{Bool, true, false, ◌&&◌, true≢false}
+use borrow.Author.Tests.{ltb-true}
+use Rattle.float.proofs.Both.{both}
 use mathlib.Core.List.{List, [], ◌∷◌, ◌++◌, append_assoc, append-nil}
 use native.Mathlib.Nat.{zero-add}
 use native.Mathlib.Omega.{arith}
-use lib.Dec.{eqb}
-use lib.IntN.{ℤ, pos}
+use lib.Dec.{eqb, ltb}
 use lib.ListN.{length, take, drop, length-append}
 use lib.Seq.{take_at, take-length, drop-nil}
-use lib.Signed.{le_z}
-use Rattle.io.specs.Counts.{clamp_len}
+use Rattle.std.proofs.Common.{Result, Ok, is_ok}
+use Rattle.std.specs.declared.io.Error.{Error}
 use Rattle.call_list.specs.Feed.{kept, blank, pushed_line, pushed_len}
 use Rattle.call_list.specs.Whole.{joined}
 use Rattle.call_list.proofs.KeptLines.{KeptLine, pushed_kept}
@@ -18,7 +19,7 @@ use Rattle.call_list.proofs.Streaming.{joined_append}
 use Rattle.rewrite.specs.declared.Fed.{Fed}
 use Rattle.rewrite.specs.Rewrite.{text_for, rewritten_from, rewritten, Puts, Rewrites}
 use Rattle.rewrite.proofs.Rewriting.{texts_by_byte}
-use Rattle.rewrite.specs.Program.{Reached, started, fed, Program, ended, Turned, Stops}
+use Rattle.rewrite.specs.Program.{Reached, started, fed, Program, ended, bytes_read, some_read, goes_on, Turned, Stops}
 
 -- ---- chunk by chunk
 
@@ -143,6 +144,15 @@ finish_fits r out text out₀ p =
     let l : length out ≡ length text + length (drop (0 + length text) out₀) = ap length p.laid_there ∙ length-append text (drop (0 + length text) out₀) in
     omega (arith, p.ends)
 
+-- where another follows
+pub turns_left : (got : Result ℕ Error) (wrote : Result (Unit {0}) Error) (left : ℕ) → goes_on got wrote left ≡ true → 0 < left
+unfolding goes_on
+turns_left got wrote left e = ltb-true 0 left (both (is_ok wrote) (ltb 0 left) (both (some_read got) (is_ok wrote && ltb 0 left) e).1).1
+
+not_end : (got : Result ℕ Error) (wrote : Result (Unit {0}) Error) (left : ℕ) → goes_on got wrote left ≡ true → got ≡ Ok 0 → ⊥
+unfolding goes_on
+not_end got wrote left e z = true≢false (rw z at (sym e))
+
 -- the chunks so far, one in each turn, lead from the start to this line
 pub record Running (line : List ℕ) (len left : ℕ) : Type 0 where
   pub chunks : List (List ℕ)
@@ -150,31 +160,31 @@ pub record Running (line : List ℕ) (len left : ℕ) : Type 0 where
   pub reached : Reached chunks w line len
   pub turns : length chunks + left ≡ 2 ^ 64 - 1
 
-module _ (line : List ℕ) (len left : ℕ) (x : Running line len left) (got : ℤ) (f : Fed) (out chunk out₀ : List ℕ) (t : Turned got f out line len chunk out₀) where
-  pub next_turn : le_z got (pos 0) ≡ false → 0 < left → Running f.line f.len (left - 1)
-  next_turn g h =
-      let c = take (clamp_len got (length chunk)) chunk in
-      record {
-        chunks = x.chunks ++ (c ∷ []);
-        w = x.w ++ take f.written out;
-        reached = fed f c out x.reached (t.before (λ z. not_end z));
-        turns = rw (length-append x.chunks (c ∷ [])) (omega (arith, x.turns));
-      }
-    where
-      not_end : got ≡ pos 0 → ⊥
-      not_end z = true≢false (ap (λ (n : ℤ). le_z n (pos 0)) (sym z) ∙ g)
+module _
+    (line : List ℕ) (len left : ℕ) (x : Running line len left) (got : Result ℕ Error) (f : Fed) (out chunk out₀ : List ℕ)
+    (t : Turned got f out line len chunk out₀)
+  where
+    pub next_turn : (wrote : Result (Unit {0}) Error) → goes_on got wrote left ≡ true → Running f.line f.len (left - 1)
+    next_turn wrote g =
+        let c = bytes_read got chunk in
+        let m = turns_left got wrote left g in
+        record {
+          chunks = x.chunks ++ (c ∷ []);
+          w = x.w ++ take f.written out;
+          reached = fed f c out x.reached (t.before (not_end got wrote left g));
+          turns = rw (length-append x.chunks (c ∷ [])) (omega (arith, x.turns));
+        }
 
-  pub last_turn :
-      (wrote : Bool) → (wrote ≡ true → le_z got (pos 0) ≡ false → left ≡ 0)
-      → Stops (record { got = got; wrote = wrote; written = f.written }) out
-  last_turn wrote h =
-      record {
-        chunks = x.chunks;
-        w = x.w;
-        line = line;
-        len = len;
-        reached = x.reached;
-        last = λ a b. omega (arith, x.turns, h a b);
-        beginning = so_far x.reached;
-        whole = λ z. in_chunks x.chunks _ (ended f.written out out₀ x.reached (t.at_end z));
-      }
+    pub last_turn : (wrote : Result (Unit {0}) Error) → goes_on got wrote left ≡ false → Stops (record { got = got; wrote = wrote; written = f.written }) out
+    last_turn wrote h =
+        let k : 2 ^ 64 - 1 - length x.chunks ≡ left = omega (arith, x.turns) in
+        record {
+          chunks = x.chunks;
+          w = x.w;
+          line = line;
+          len = len;
+          reached = x.reached;
+          last = rw k h;
+          beginning = so_far x.reached;
+          whole = λ z. in_chunks x.chunks _ (ended f.written out out₀ x.reached (t.at_end z));
+        }

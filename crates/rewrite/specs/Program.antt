@@ -1,7 +1,6 @@
 -- The program: chunks written anew one after another, and the end of the input. Definitions only.
-use Rattle.std.specs.Prelude.{ℕ, ◌-◌, ◌^◌, ◌≤◌, ◌≡◌, true, false, List, [], ◌∷◌, ◌++◌, ℤ, pos, length, take}
-use Rattle.std.specs.Int.Signed.{le_z}
-use Rattle.io.specs.Counts.{clamp_len}
+use Rattle.std.specs.Prelude.{ℕ, ◌-◌, ◌^◌, ◌≤◌, ◌≡◌, Bool, false, ◌&&◌, Result, Ok, Err, is_ok, List, [], ◌∷◌, ◌++◌, ltb, length, take}
+use Rattle.std.specs.declared.io.Error.{Error}
 use Rattle.call_list.specs.Feed.{blank}
 use Rattle.call_list.specs.Whole.{joined}
 use Rattle.rewrite.specs.declared.Fed.{Fed}
@@ -27,11 +26,25 @@ pub data Program : List (List ℕ) → List ℕ → Type 0 where
       → Reached chunks w line len → Finishes r out line len out₀
       → Program chunks (w ++ take r out)
 
--- what a turn leaves where the read answered `got`: 0 at the end of the input, or how many bytes it put at the start of the chunk
-pub record Turned (got : ℤ) (f : Fed) (out line : List ℕ) (len : ℕ) (chunk out₀ : List ℕ) : Type 0 where
-  pub at_end : got ≡ pos 0 → Finishes f.written out line len out₀
-  pub before : (got ≡ pos 0 → ⊥) → Rewrites f out line len (take (clamp_len got (length chunk)) chunk)
+-- what a read put at the start of the chunk: so many bytes, or none where it failed
+abbrev pub bytes_read : Result ℕ Error → List ℕ → List ℕ
+bytes_read (Ok n) chunk = take n chunk
+bytes_read (Err e) chunk = []
+
+-- what a turn leaves where the read answered `got`: 0 at the end of the input
+pub record Turned (got : Result ℕ Error) (f : Fed) (out line : List ℕ) (len : ℕ) (chunk out₀ : List ℕ) : Type 0 where
+  pub at_end : got ≡ Ok 0 → Finishes f.written out line len out₀
+  pub before : (got ≡ Ok 0 → ⊥) → Rewrites f out line len (bytes_read got chunk)
   pub fits : f.written ≤ length out
+
+-- whether the read put bytes into the chunk
+abbrev pub some_read : Result ℕ Error → Bool
+some_read (Ok n) = ltb 0 n
+some_read (Err e) = false
+
+-- another turn follows where the read put bytes into the chunk and the write took all of the texts, and turns are left
+unfoldable pub goes_on : Result ℕ Error → Result (Unit {0}) Error → ℕ → Bool
+goes_on got wrote left = some_read got && (is_ok wrote && ltb 0 left)
 
 -- how the turns end: the chunks were fed, each in a turn, and w was handed to the write, when the last turn began
 pub record Stops (s : Stop) (out : List ℕ) : Type 0 where
@@ -40,8 +53,7 @@ pub record Stops (s : Stop) (out : List ℕ) : Type 0 where
   pub line : List ℕ
   pub len : ℕ
   pub reached : Reached chunks w line len
-  -- after a read that put bytes into the chunk and a write that took all another turn follows, as long as turns are left
-  pub last : s.wrote ≡ true → le_z s.got (pos 0) ≡ false → length chunks ≡ 2 ^ 64 - 1
+  pub last : goes_on s.got s.wrote (2 ^ 64 - 1 - length chunks) ≡ false
   -- what was handed to the write is the beginning of the texts, whatever would follow, and all of them at the end of the input
   pub beginning : (rest : List ℕ) → take (length w) (rewritten (joined chunks ++ rest)) ≡ w
-  pub whole : s.got ≡ pos 0 → w ++ take s.written out ≡ rewritten (joined chunks)
+  pub whole : s.got ≡ Ok 0 → w ++ take s.written out ≡ rewritten (joined chunks)

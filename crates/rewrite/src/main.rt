@@ -2,14 +2,16 @@
 // comes back as `call_line` writes its call, one that is refused as the number of its refusal.
 #![tactic(auto)]
 
-ghost use Rattle.std.specs.Prelude.{◌+◌, ◌*◌, ◌≤◌, ◌≡◌, length};
-ghost use Rattle.call_line.specs.Write.{line_text, line_bytes, write_refusal};
+ghost use Rattle.std.specs.Prelude.{◌+◌, ◌*◌, ◌≤◌, ◌≡◌, length, IfOk};
+ghost use Rattle.call_line.specs.Write.{line_text, line_bytes, write_outcome};
 ghost use Rattle.call_list.specs.Feed.{kept};
 ghost use Rattle.rewrite.specs.Rewrite.{refusal_text, text_for, Puts, Rewrites};
-ghost use Rattle.rewrite.specs.Program.{Finishes, Turned, Stops};
+ghost use Rattle.rewrite.specs.Program.{Finishes, Turned, goes_on, Stops};
 
-use call_line::{Call, Line};
+use call_line::{Call, LineRefusal};
 use call_list::{KEPT, REFUSAL_WIDTH};
+use refusal::Refusal;
+use std::io;
 
 // The most that a line is answered: a line in shape and its newline
 const TEXT: usize = call_line::LINE_WIDTH + 1;
@@ -30,11 +32,11 @@ struct Fed {
     written: usize,
 }
 
-// The last turn: what its read answered, whether its write took all, and how much that was.
-#[derive(Clone, Copy)]
+// The last turn: what its read and its write answered, and how much was to be written.
+#[derive(Drop)]
 struct Stop {
-    got: isize,
-    wrote: bool,
+    got: io::Result<usize>,
+    wrote: io::Result<()>,
     written: usize,
 }
 
@@ -42,7 +44,7 @@ fn main(rt: HostRuntime) {
     let mut chunk = empty_chunk();
     let mut out = empty_room();
     let stop = rewrite_all(rt, &mut chunk, &mut out);
-    complain(&rt, stop.got, stop.wrote);
+    complain(&rt, stop);
 }
 
 // The buffers are zeros. What these two promise is their lengths alone, so that no proof computes with
@@ -63,19 +65,19 @@ fn empty_room() -> [u8; ROOM]
 
 // A call that was read, in out from w on. Answers where its text ends.
 fn put_call(call: Call, out: &mut [u8], w: usize) -> usize
-    requires { (write_refusal call line_bytes ≡ 0) × (w + line_bytes ≤ length out.old) }
+    requires { (write_outcome call line_bytes ≡ Ok tt) × (w + line_bytes ≤ length out.old) }
     ensures { Puts result out.new (line_text call) out.old w }
 {
-    call_line::write_line(call, &mut out[w..w + TEXT]);
+    call_line::write_line(call, &mut out[w..w + TEXT]).unwrap();
     w + TEXT
 }
 
-fn put_refusal(refusal: u8, out: &mut [u8], w: usize) -> usize
+fn put_refusal(refusal: Refusal, out: &mut [u8], w: usize) -> usize
     requires { w + line_bytes ≤ length out.old }
     ensures { Puts result out.new (refusal_text refusal) out.old w }
 {
     let end = w + REFUSAL_WIDTH;
-    call_line::write_number(&mut out[w..end], refusal as u64);
+    call_line::write_number(&mut out[w..end], u8::from(refusal) as u64);
     out[end] = b'\n';
     end + 1
 }
@@ -86,9 +88,10 @@ fn put_line(line: &[u8], out: &mut [u8], w: usize) -> usize
     ensures { Puts result out.new (text_for line.now) out.old w }
 {
     match call_line::read_line(line) {
-        Line::Taken(call) => put_call(call, out, w),
-        Line::Refused(refusal) => put_refusal(refusal, out, w),
-        Line::ReportRefused(refusal) => put_refusal(refusal, out, w),
+        Ok(call) => put_call(call, out, w),
+        Err(LineRefusal::Report(refusal) | LineRefusal::Other(refusal)) => {
+            put_refusal(refusal, out, w)
+        }
     }
 }
 
@@ -134,20 +137,36 @@ fn finish(line: [u8; KEPT], len: usize, out: &mut [u8]) -> usize
 // ---- the whole input
 
 // What a read that answered `got` leads to. One that failed put no bytes into the chunk.
-fn take_turn(got: isize, line: [u8; KEPT], len: usize, chunk: &[u8], out: &mut [u8]) -> Fed
-    requires { (len ≤ kept) × (line_bytes * length chunk.now ≤ length out.old) × (line_bytes ≤ length out.old) }
-    ensures { Turned got result out.new line len chunk.now out.old }
+fn take_turn(
+    got: &io::Result<usize>,
+    line: [u8; KEPT],
+    len: usize,
+    chunk: &[u8],
+    out: &mut [u8],
+) -> Fed
+    requires { (len ≤ kept) × (line_bytes * length chunk.now ≤ length out.old)
+        × (line_bytes ≤ length out.old) }
+    ensures { Turned got.now result out.new line len chunk.now out.old }
 {
-    if got == 0 {
-        let written = finish(line, len, out);
-        return Fed {
+    match got {
+        Ok(0) => {
+            let written = finish(line, len, out);
+            Fed {
+                line,
+                len: 0,
+                written,
+            }
+        }
+        Ok(n) => {
+            let n = (*n).min(chunk.len());
+            rewrite_chunk(line, len, &chunk[..n], out)
+        }
+        Err(_) => Fed {
             line,
-            len: 0,
-            written,
-        };
+            len,
+            written: 0,
+        },
     }
-    let n = io::count(got, chunk);
-    rewrite_chunk(line, len, &chunk[..n], out)
 }
 
 // A proved loop has to end, and nothing says that the input does: the turns are counted down from a
@@ -161,22 +180,14 @@ fn rewrite_all(rt: HostRuntime, chunk: &mut [u8], out: &mut [u8]) -> Stop
     let mut left = u64::MAX;
     'turns: loop {
         let got = streams::read_chunk(&mut rt.stdin(), chunk);
-        let fed = take_turn(got, line, len, chunk, out);
-        let written = fed.written;
-        let wrote = streams::write_all(&mut rt.stdout(), &out[..written]);
-        let stop = Stop {
-            got,
-            wrote,
-            written,
-        };
-        if !wrote {
-            return stop;
-        }
-        if got <= 0 {
-            return stop;
-        }
-        if left == 0 {
-            return stop;
+        let fed = take_turn(&got, line, len, chunk, out);
+        let wrote = streams::write_all(&mut rt.stdout(), &out[..fed.written]);
+        if !goes_on(&got, &wrote, left) {
+            return Stop {
+                got,
+                wrote,
+                written: fed.written,
+            };
         }
         line = fed.line;
         len = fed.len;
@@ -184,12 +195,20 @@ fn rewrite_all(rt: HostRuntime, chunk: &mut [u8], out: &mut [u8]) -> Stop
     }
 }
 
+// A read that failed or came to the end, and a write that failed, are the last.
+#[tactic(auto, unfolding(crate::specs::Program::goes_on))]
+fn goes_on(got: &io::Result<usize>, wrote: &io::Result<()>, left: u64) -> bool
+    ensures { result ≡ goes_on got.now wrote.now left }
+{
+    matches!(got, Ok(1..)) && wrote.is_ok() && left > 0
+}
+
 // One line on standard error for a run that could not write its whole input anew.
-fn complain(rt: &impl Eprint, got: isize, wrote: bool) {
-    if got < 0 {
+fn complain(rt: &impl Eprint, stop: Stop) {
+    if stop.got.is_err() {
         let _ = eprintln!(rt; "rewrite: the input cannot be read");
     }
-    if !wrote {
+    if stop.wrote.is_err() {
         let _ = eprintln!(rt; "rewrite: the lines cannot be written");
     }
 }

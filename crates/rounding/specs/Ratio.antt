@@ -1,5 +1,5 @@
 -- The loss ratio of a window and the ceiling that it sets, as the floats that the controller computes, each operation rounded once. Definitions only.
-use Rattle.std.specs.Prelude.{ℕ, cond, pos, Float}
+use Rattle.std.specs.Prelude.{ℕ, if◌then◌else◌, pos, Float}
 use mathlib.Core.List.{List, foldl}
 use Rattle.std.specs.Float.{binary64}
 use Rattle.std.specs.Float.Ieee.{eq, of_int}
@@ -23,7 +23,7 @@ float_lost os = foldl (add_weighted (λ (o : Measured). o.lost)) (bits 0) os
 
 -- 0.0 where the total is 0.0, else lost / total
 unfoldable pub loss_ratio : List Measured → Float
-loss_ratio os = cond (eq (float_total os) (bits 0)) (bits 0) (float_lost os ⊘ float_total os)
+loss_ratio os = if eq (float_total os) (bits 0) then bits 0 else float_lost os ⊘ float_total os
 
 -- ---- `calculate_instant_upper_bound`
 -- what a ratio above 0.05 sets, in bit/s

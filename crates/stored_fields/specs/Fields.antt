@@ -1,12 +1,10 @@
 -- Rates and times as fields of the stored files. Definitions only.
-use Rattle.std.specs.Prelude.{ℕ, cond, eqb}
+use Rattle.std.specs.Prelude.{ℕ, if◌then◌else◌, ◌==◌, Option, Some, None}
 use Rattle.std.specs.Float.{binary64}
 use Rattle.std.specs.Float.Ieee.{of_bits, to_bits}
 use Rattle.time.specs.declared.Timestamp.{Timestamp}
 use Rattle.time.specs.declared.Timestamp.TheVariants.{DistantPast, Exact, DistantFuture}
 use Rattle.bandwidth.specs.declared.Bitrate.{Bitrate}
-use Rattle.bandwidth.specs.declared.OptionBitrate.{OptionBitrate}
-use Rattle.bandwidth.specs.declared.OptionBitrate.TheVariants.{Some, None}
 
 -- a rate is its 64 bits
 abbrev pub rate : ℕ → Bitrate
@@ -16,17 +14,17 @@ abbrev pub rate_bits : Bitrate → ℕ
 rate_bits r = to_bits binary64 r.bps
 
 -- a rate that may be there is two fields: None 0 0, Some 1 and its bits
-abbrev pub option_case : OptionBitrate → ℕ
+abbrev pub option_case : Option Bitrate → ℕ
 option_case (Some r) = 1
 option_case None = 0
 
-abbrev pub option_bits : OptionBitrate → ℕ
+abbrev pub option_bits : Option Bitrate → ℕ
 option_bits (Some r) = rate_bits r
 option_bits None = 0
 
 -- a time is two fields: DistantPast 0 0, Exact 1 and its ns, DistantFuture 2 0
 abbrev pub timestamp : ℕ → ℕ → Timestamp
-timestamp case ns = cond (eqb case 0) DistantPast (cond (eqb case 1) (Exact ns) DistantFuture)
+timestamp case ns = if case == 0 then DistantPast else (if case == 1 then Exact ns else DistantFuture)
 
 abbrev pub timestamp_case : Timestamp → ℕ
 timestamp_case DistantPast = 0

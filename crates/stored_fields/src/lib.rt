@@ -4,13 +4,13 @@
 ghost use Rattle.std.specs.Prelude.{◌≡◌};
 ghost use Rattle.stored_fields.specs.Fields as Fields;
 
-use bandwidth::{Bitrate, OptionBitrate};
+use bandwidth::Bitrate;
 use time::Timestamp;
 
 pub fn rate(bits: u64) -> Bitrate
     ensures { result ≡ Fields.rate bits }
 {
-    Bitrate::from_f64(float::from_bits(bits))
+    Bitrate::from(float::from_bits(bits))
 }
 
 pub fn rate_bits(rate: Bitrate) -> u64
@@ -19,34 +19,26 @@ pub fn rate_bits(rate: Bitrate) -> u64
     float::to_bits(rate.as_f64())
 }
 
-pub fn option_case(rate: OptionBitrate) -> u64
+pub fn option_case(rate: Option<Bitrate>) -> u64
     ensures { result ≡ Fields.option_case rate }
 {
-    match rate {
-        OptionBitrate::Some(_) => 1,
-        OptionBitrate::None => 0,
-    }
+    u64::from(rate.is_some())
 }
 
-pub fn option_bits(rate: OptionBitrate) -> u64
+pub fn option_bits(rate: Option<Bitrate>) -> u64
     ensures { result ≡ Fields.option_bits rate }
 {
-    match rate {
-        OptionBitrate::Some(rate) => rate_bits(rate),
-        OptionBitrate::None => 0,
-    }
+    rate.map_or(0, rate_bits)
 }
 
 pub fn timestamp(case: u64, ns: u64) -> Timestamp
     ensures { result ≡ Fields.timestamp case ns }
 {
-    if case == 0 {
-        return Timestamp::DistantPast;
+    match case {
+        0 => Timestamp::DistantPast,
+        1 => Timestamp::Exact(ns),
+        _ => Timestamp::DistantFuture,
     }
-    if case == 1 {
-        return Timestamp::Exact(ns);
-    }
-    Timestamp::DistantFuture
 }
 
 pub fn timestamp_case(time: Timestamp) -> u64
@@ -63,8 +55,7 @@ pub fn timestamp_ns(time: Timestamp) -> u64
     ensures { result ≡ Fields.timestamp_ns time }
 {
     match time {
-        Timestamp::DistantPast => 0,
         Timestamp::Exact(ns) => ns,
-        Timestamp::DistantFuture => 0,
+        Timestamp::DistantPast | Timestamp::DistantFuture => 0,
     }
 }

@@ -1,42 +1,124 @@
-// Reads and writes of the programs, over std's readers and writers: whole lines and chunks.
+// Reads and writes of the programs, over std's readers and writers: whole lines and chunks. What a
+// signal interrupts is tried again.
 #![tactic(auto)]
 
-ghost use Rattle.std.specs.Prelude.{◌≡◌, true, IfOk};
-ghost use Rattle.std.specs.Io.KnownBytes.{Appends, Consumes};
-ghost use Rattle.streams.specs.Reads.{Reads};
+ghost use Rattle.std.specs.Prelude.{◌≡◌, ◌≢◌, ◌-◌, ◌^◌, IfErr};
+ghost use Rattle.std.specs.IoError.{error_kind};
+ghost use Rattle.std.specs.declared.io.ErrorKind.{ErrorKind};
+ghost use Rattle.std.specs.Iterator.{at_most};
+ghost use Rattle.streams.specs.Streams.{Reads, Fills, ReadsLine, YieldsLine, Writes, WritesAll};
 
 use std::io::{self, ErrorKind, Read, Write};
 
-// Fills the line from the input. Answers whether there was a whole one: false where the input ends
-// before.
-pub fn read_line<R: Read>(input: &mut R, line: &mut [u8]) -> io::Result<bool>
-    ensures { IfOk result (λ whole. whole ≡ true → Consumes (R.remaining input.old) (R.remaining input.new) line.new) }
-{
-    match input.read_exact(line) {
-        Ok(()) => Ok(true),
-        Err(e) => {
-            if e.kind() == ErrorKind::UnexpectedEof {
-                return Ok(false);
-            }
-            Err(e)
+// The lines of an input, of N bytes each. Where it ends within a line there is no other.
+#[derive(Drop)]
+pub struct Lines<R, const N: usize> {
+    input: R,
+    // Nothing says that an input ends, so its lines are counted.
+    left: u64,
+}
+
+impl<R, const N: usize> Lines<R, N> {
+    pub fn new(input: R) -> Lines<R, N>
+        ensures { result ≡ record { input = input; left = 2 ^ 64 - 1 } }
+    {
+        Lines {
+            input,
+            left: u64::MAX,
         }
     }
 }
 
-// One read into the chunk. Answers as C's read does: how many bytes it put at the start of the chunk,
-// 0 at the end of the input, or -1 where it failed.
-pub fn read_chunk<R: Read>(input: &mut R, chunk: &mut [u8]) -> isize
-    ensures { Reads result (R.remaining input.old) (R.remaining input.new) chunk.new }
-{
-    match input.read(chunk) {
-        Ok(n) => n as isize,
-        Err(_) => -1,
+impl<R: Read + Drop, const N: usize> Iterator for Lines<R, N> {
+    type Item = io::Result<[u8; N]>;
+
+    ghost next_gives = { λ s line t. YieldsLine N s.left line (R.remaining s.input) (R.remaining t.input) };
+
+    ghost remaining = { λ s. at_most s.left };
+
+    fn next(&mut self) -> Option<io::Result<[u8; N]>> {
+        if self.left == 0 {
+            return None;
+        }
+        self.left -= 1;
+        read_line(&mut self.input).transpose()
+    }
+
+    fn size_hint(&self) -> (usize, Option<usize>) {
+        (0, None)
     }
 }
 
-// Writes all of the bytes. Answers whether that did not fail.
-pub fn write_all<W: Write>(out: &mut W, bytes: &[u8]) -> bool
-    ensures { result ≡ true → Appends (W.contents out.old) (W.contents out.new) bytes.now }
+// A line of N bytes: None where the input ends before.
+pub fn read_line<R: Read, const N: usize>(input: &mut R) -> io::Result<Option<[u8; N]>>
+    ensures bytes { ReadsLine N result (R.remaining input.old) (R.remaining input.new) }
+    ensures retried { IfErr result (λ e. error_kind e ≢ ErrorKind.Interrupted) }
 {
-    out.write_all(bytes).is_ok()
+    let mut line = [0u8; N];
+    if fill(input, &mut line)? {
+        return Ok(Some(line));
+    }
+    Ok(None)
+}
+
+// Fills the line from the input. Answers whether the input did not end before.
+fn fill<R: Read>(input: &mut R, line: &mut [u8]) -> io::Result<bool>
+    ensures bytes { Fills result (R.remaining input.old) (R.remaining input.new) line.new }
+    ensures retried { IfErr result (λ e. error_kind e ≢ ErrorKind.Interrupted) }
+{
+    let mut filled = 0;
+    while filled < line.len() {
+        let n = read_chunk(input, &mut line[filled..])?;
+        if n == 0 {
+            return Ok(false);
+        }
+        filled += n;
+    }
+    Ok(true)
+}
+
+// One read into the chunk. Answers how many bytes it put at the start of it: 0 at the end of the
+// input.
+pub fn read_chunk<R: Read>(input: &mut R, chunk: &mut [u8]) -> io::Result<usize>
+    ensures bytes { Reads result (R.remaining input.old) (R.remaining input.new) chunk.new }
+    ensures retried { IfErr result (λ e. error_kind e ≢ ErrorKind.Interrupted) }
+{
+    // Nothing says that the signals end, so the tries are counted.
+    for _ in 0..u64::MAX {
+        match input.read(chunk) {
+            Err(e) if e.kind() == ErrorKind::Interrupted => {}
+            read => return read,
+        }
+    }
+    Err(io::Error::from(ErrorKind::TimedOut))
+}
+
+// Writes all of the bytes. One that fails, or takes nothing, leaves those before it written.
+pub fn write_all<W: Write>(out: &mut W, bytes: &[u8]) -> io::Result<()>
+    ensures bytes { WritesAll result (W.contents out.old) (W.contents out.new) bytes.now }
+    ensures retried { IfErr result (λ e. error_kind e ≢ ErrorKind.Interrupted) }
+{
+    let mut written = 0;
+    while written < bytes.len() {
+        let n = write_chunk(out, &bytes[written..])?;
+        if n == 0 {
+            return Err(io::Error::from(ErrorKind::WriteZero));
+        }
+        written += n;
+    }
+    Ok(())
+}
+
+// One write. Answers how many of the bytes, from the first on, it took.
+fn write_chunk<W: Write>(out: &mut W, bytes: &[u8]) -> io::Result<usize>
+    ensures bytes { Writes result (W.contents out.old) (W.contents out.new) bytes.now }
+    ensures retried { IfErr result (λ e. error_kind e ≢ ErrorKind.Interrupted) }
+{
+    for _ in 0..u64::MAX {
+        match out.write(bytes) {
+            Err(e) if e.kind() == ErrorKind::Interrupted => {}
+            wrote => return wrote,
+        }
+    }
+    Err(io::Error::from(ErrorKind::TimedOut))
 }

@@ -3,14 +3,24 @@
 // same behind.
 #![tactic(auto)]
 
-ghost use Rattle.std.specs.Prelude.{◌≡◌};
+ghost use Rattle.std.specs.Prelude.{◌≡◌, Ok};
+ghost use Rattle.std.specs.Result.{result_unwrap_or};
+ghost use Rattle.refusal.specs.Outcome.{and_then};
 ghost use Rattle.loss_controller.specs.Report.{update_bandwidth_estimate};
 ghost use Rattle.lent.specs.Records.{update_records};
 
 use bandwidth::Bitrate;
-use loss_controller::{ControllerAnswer, LossController};
+use loss_controller::LossController;
 use packets::{PacketResult, PacketSize};
+use refusal::Refusal;
 use std::io;
+
+// What a call answered, and the controller that it left
+#[derive(Clone, Copy)]
+struct Outcome {
+    answer: Result<(), Refusal>,
+    controller: LossController,
+}
 
 fn main(rt: HostRuntime) -> io::Result<()> {
     println!(rt; "by bytes")?;
@@ -21,98 +31,72 @@ fn main(rt: HostRuntime) -> io::Result<()> {
 
 fn forms(out: &impl Print, new: LossController) -> io::Result<()> {
     let set = new.set_bandwidth_estimate(Bitrate { bps: 1.0e6 });
-    let mut controller = set.controller;
+    let mut controller = set.unwrap_or(new);
     controller = sent_at(out, controller, 0)?;
     controller = sent_at(out, controller, 300_000_000)?;
     controller = sent_at(out, controller, 600_000_000)?;
     // 3, 17, 8, 2 and 4
     controller = sent_at(out, controller, 4_000_000_000_000_000_001)?;
-    controller = sized(out, controller, 10_000_000)?;
-    controller = flagged(out, controller, 2)?;
-    controller = delayed(out, controller, -1.0)?;
+    let large = packets(700_000_000, [(1_200, 1), (10_000_000, 0), (400, 0)]);
+    controller = reported(out, controller, large, 2.0e6)?;
+    let flagged = packets(700_000_000, [(1_200, 1), (800, 2), (400, 0)]);
+    controller = reported(out, controller, flagged, 2.0e6)?;
+    let usual = packets(700_000_000, [(1_200, 1), (800, 0), (400, 1)]);
+    controller = reported(out, controller, usual, -1.0)?;
     controller = unequal(out, controller)?;
     // 5, 10 and 11
     controller = too_many(out, controller)?;
     sent_at(out, with_sums(controller, 1_000_000_000_000), 900_000_000)?;
     sent_at(out, with_count(controller, 1_000_000_000), 900_000_000)?;
-    controller = delayed(out, controller, float::infinity())?;
+    controller = reported(out, controller, usual, f64::INFINITY)?;
     controller = sent_at(out, controller, 900_000_000)?;
     controller = sent_at(out, controller, 1_000_000_000)?;
     print_last(out, controller)
 }
 
-fn packet(local_send_time: u64, size: PacketSize, lost: u8) -> PacketResult {
-    PacketResult {
+// Packets that were sent at a time, each by its size and its flag.
+fn packets(local_send_time: u64, packets: [(PacketSize, u8); 3]) -> [PacketResult; 3] {
+    packets.map(|(size, lost)| PacketResult {
         local_send_time,
         size,
         lost,
-    }
+    })
 }
 
+// The second packet was sent long before.
 fn sent_at(out: &impl Print, controller: LossController, time: u64) -> io::Result<LossController> {
-    let one = packet(time, 1_200, 0);
-    let two = packet(5, 800, 1);
-    let three = packet(time, 9_999_999, 0);
-    reported(out, controller, one, two, three, 2.0e6)
-}
-
-fn sized(
-    out: &impl Print,
-    controller: LossController,
-    size: PacketSize,
-) -> io::Result<LossController> {
-    let one = packet(700_000_000, 1_200, 1);
-    let two = packet(700_000_000, size, 0);
-    let three = packet(700_000_000, 400, 0);
-    reported(out, controller, one, two, three, 2.0e6)
-}
-
-fn flagged(out: &impl Print, controller: LossController, flag: u8) -> io::Result<LossController> {
-    let one = packet(700_000_000, 1_200, 1);
-    let two = packet(700_000_000, 800, flag);
-    let three = packet(700_000_000, 400, 0);
-    reported(out, controller, one, two, three, 2.0e6)
-}
-
-fn delayed(out: &impl Print, controller: LossController, delay: f64) -> io::Result<LossController> {
-    let one = packet(700_000_000, 1_200, 1);
-    let two = packet(700_000_000, 800, 0);
-    let three = packet(700_000_000, 400, 1);
-    reported(out, controller, one, two, three, delay)
+    let mut packets = packets(time, [(1_200, 0), (800, 1), (9_999_999, 0)]);
+    packets[1].local_send_time = 5;
+    reported(out, controller, packets, 2.0e6)
 }
 
 fn reported(
     out: &impl Print,
     controller: LossController,
-    one: PacketResult,
-    two: PacketResult,
-    three: PacketResult,
+    packets: [PacketResult; 3],
     bps: f64,
 ) -> io::Result<LossController> {
-    let times: [u64; 3] = [
-        one.local_send_time,
-        two.local_send_time,
-        three.local_send_time,
-    ];
-    let sizes: [PacketSize; 3] = [one.size, two.size, three.size];
-    let flags: [u8; 3] = [one.lost, two.lost, three.lost];
+    let times = packets.map(|packet| packet.local_send_time);
+    let sizes = packets.map(|packet| packet.size);
+    let flags = packets.map(|packet| packet.lost);
     let delay = Bitrate { bps };
     let answer = controller.update_bandwidth_estimate(&times, &sizes, &flags, delay);
+    let by_value = Outcome::new(controller, answer);
     let lent = by_loan(controller, &times, &sizes, &flags, delay);
-    let records = of_records(controller, [one, two, three], delay);
-    print_refusal(out, answer.refusal)?;
-    print_same(out, b", lent ", answer, lent)?;
-    print_same(out, b", records ", answer, records)?;
-    out.write_all(b"\n")?;
-    Ok(answer.controller)
+    let records = Outcome::new(controller, of_records(controller, packets, delay));
+    let refusal = by_value.code();
+    println!(out;
+        "refusal {refusal}, lent {}, records {}",
+        by_value.same(lent),
+        by_value.same(records)
+    )?;
+    Ok(by_value.controller)
 }
 
 // Columns of unequal length, which records do not have.
 fn unequal(out: &impl Print, controller: LossController) -> io::Result<LossController> {
-    let times: [u64; 3] = [800_000_000, 800_000_001, 800_000_002];
-    let sizes: [PacketSize; 2] = [1_200, 800];
-    let flags: [u8; 3] = [0, 1, 0];
-    by_columns(out, controller, &times, &sizes, &flags)
+    let times = [800_000_000, 800_000_001, 800_000_002];
+    by_columns(out, controller, &times, &[1_200, 800], &[0, 1, 0])
 }
 
 // One packet more than a report may have. `of_records` lends an array of three: what `update_records`
@@ -133,28 +117,22 @@ fn by_columns(
 ) -> io::Result<LossController> {
     let delay = Bitrate { bps: 2.0e6 };
     let answer = controller.update_bandwidth_estimate(times, sizes, flags, delay);
+    let by_value = Outcome::new(controller, answer);
     let lent = by_loan(controller, times, sizes, flags, delay);
-    print_refusal(out, answer.refusal)?;
-    print_same(out, b", lent ", answer, lent)?;
-    out.write_all(b"\n")?;
-    Ok(answer.controller)
+    let refusal = by_value.code();
+    println!(out; "refusal {refusal}, lent {}", by_value.same(lent))?;
+    Ok(by_value.controller)
 }
 
 // The controller with so many running bytes
 fn with_sums(mut controller: LossController, size: u64) -> LossController {
-    let mut observations = controller.observations;
-    let mut sums = observations.partial_observation;
-    sums.size = size;
-    observations.partial_observation = sums;
-    controller.observations = observations;
+    controller.observations.partial_observation.size = size;
     controller
 }
 
 // The controller with so many observations
 fn with_count(mut controller: LossController, num_observations: u64) -> LossController {
-    let mut observations = controller.observations;
-    observations.num_observations = num_observations;
-    controller.observations = observations;
+    controller.observations.num_observations = num_observations;
     controller
 }
 
@@ -165,14 +143,17 @@ fn by_loan(
     sizes: &[PacketSize],
     flags: &[u8],
     delay: Bitrate,
-) -> ControllerAnswer
-    ensures { result ≡ update_bandwidth_estimate controller times.now sizes.now flags.now delay }
+) -> Outcome
+    ensures answer { result.answer
+        ≡ and_then (update_bandwidth_estimate controller times.now sizes.now flags.now delay) (λ _. Ok tt) }
+    ensures left { result.controller
+        ≡ result_unwrap_or (update_bandwidth_estimate controller times.now sizes.now flags.now delay) controller }
 {
     let mut own = controller;
-    let refusal = lent::update_lent(&mut own, times, sizes, flags, delay);
-    ControllerAnswer {
+    let answer = lent::update_lent(&mut own, times, sizes, flags, delay);
+    Outcome {
+        answer,
         controller: own,
-        refusal,
     }
 }
 
@@ -181,36 +162,38 @@ fn of_records(
     controller: LossController,
     records: [PacketResult; 3],
     delay: Bitrate,
-) -> ControllerAnswer
+) -> Result<LossController, Refusal>
     ensures { result ≡ update_records controller records delay }
 {
     lent::update_records(controller, &records, delay)
 }
 
-fn print_refusal(out: &impl Print, refusal: u8) -> io::Result<()> {
-    print!(out; "refusal {refusal}")
-}
+impl Outcome {
+    // Of a call by value: a call that is refused leaves the controller that its caller has.
+    fn new(before: LossController, answer: Result<LossController, Refusal>) -> Outcome {
+        Outcome {
+            answer: answer.map(|_| ()),
+            controller: answer.unwrap_or(before),
+        }
+    }
 
-fn print_same(
-    out: &impl Print,
-    form: &[u8],
-    answer: ControllerAnswer,
-    other: ControllerAnswer,
-) -> io::Result<()> {
-    out.write_all(form)?;
-    let changes = comparison::compared(answer.controller, other.controller);
-    if answer.refusal == other.refusal && changes.is_none() {
-        out.write_all(b"same")
-    } else {
-        out.write_all(b"OTHER")
+    fn code(self) -> u8 {
+        self.answer.err().map_or(0, u8::from)
+    }
+
+    fn same(self, other: Outcome) -> &'static str {
+        let changes = comparison::compared(self.controller, other.controller);
+        if self.answer == other.answer && changes.is_none() {
+            "same"
+        } else {
+            "OTHER"
+        }
     }
 }
 
 // What the reports came to, so that forms which agree in doing nothing are told.
 fn print_last(out: &impl Print, controller: LossController) -> io::Result<()> {
-    let observations = controller.observations;
-    let sums = observations.partial_observation;
-    let count = observations.num_observations;
-    let size = sums.size;
+    let count = controller.observations.num_observations;
+    let size = controller.observations.partial_observation.size;
     println!(out; "observations {count}, running bytes {size}")
 }

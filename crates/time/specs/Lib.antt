@@ -1,6 +1,5 @@
-pub mod Order
 pub mod Delta
 pub mod Time
 pub mod Starred
 pub mod Same
-mod Examples
+pub mod Laws

@@ -1,5 +1,5 @@
 -- `answer_all` meets its contract: in each turn the chunks so far lead to where the program is. Assumes nothing.
-use Rattle.std.proofs.Common.{◌≤◌, ◌<◌, ◌/◌, ◌≡◌, length, arith, sym, ◌∙◌, refl, [], to_z, of_z, w64}
+use Rattle.std.proofs.Common.{◌≤◌, ◌<◌, ◌/◌, ◌≡◌, length, arith, sym, ◌∙◌, refl, []}
 use lib.Seq.{length-take-le}
 use Rattle.call_list.specs.Feed.{row_width}
 use Rattle.call_list.specs.Whole.{started}
@@ -19,7 +19,7 @@ slice_bounds-write_all-end-in-turns c =
     let l = c.turns in
     sym
     (length-take-le _ _
-    (turn_fits (to_z w64 (of_z w64 c.read_chunk-got.result)) c.take_turn-fed.result _ _ _ _ l.state l.times l.sizes l.flags
+    (turn_fits c.read_chunk-got.result c.take_turn-fed.result _ _ _ _ l.state l.times l.sizes l.flags
     c.read_chunk-got.new.chunk l.out c.take_turn-fed.ensures))
 
 pub returns-then-not-goes_on : goal.returns-then-not-goes_on
@@ -29,7 +29,7 @@ returns-then-not-goes_on c =
     let wide : length c.read_chunk-got.new.chunk ≤ length l.out / row_width = omega (arith, l.invariant.0, l.invariant.1, c.requires.3) in
     let row : row_width ≤ length l.out = omega (arith, l.invariant.1, c.requires.4) in
     last_turn l.state l.times l.sizes l.flags c.read_chunk-got.new.chunk l.out l.left l.invariant.2 wide row
-    (to_z w64 (of_z w64 c.read_chunk-got.result)) c.take_turn-fed.result _ _ _ _ c.take_turn-fed.ensures c.write_all-wrote.result
+    c.read_chunk-got.result c.take_turn-fed.result _ _ _ _ c.take_turn-fed.ensures c.write_all-wrote.result
     (sym c.goes_on.ensures ∙ c.if-not-goes_on.true)
 
 pub overflow_sub-left : goal.overflow_sub-left
@@ -48,6 +48,6 @@ turns-preserved c =
       same ∙ l.invariant.0,
       same_out ∙ l.invariant.1,
       next_turn l.state l.times l.sizes l.flags c.read_chunk-got.new.chunk l.out l.left l.invariant.2 wide row
-          (to_z w64 (of_z w64 c.read_chunk-got.result)) c.take_turn-fed.result _ _ _ _ c.take_turn-fed.ensures c.write_all-wrote.result
+          c.read_chunk-got.result c.take_turn-fed.result _ _ _ _ c.take_turn-fed.ensures c.write_all-wrote.result
           (sym c.goes_on.ensures ∙ c.if-not-goes_on.false),
     )

@@ -1,11 +1,9 @@
 -- `read_columns` meets its contract: the columns so far are read, and the first wrong one ends the reading. Assumes nothing.
-use Rattle.std.proofs.Common.{◌≡◌, ℕ, ◌+◌, ◌<◌, ◌≤◌, List, length, length-set, get_or, sym, ap, ◌∙◌, arith}
-use Rattle.call_line.specs.declared.Number.TheVariants.{Wrong}
+use Rattle.std.proofs.Common.{◌≡◌, ℕ, ◌+◌, ◌<◌, ◌≤◌, None, List, length, length-set, get_or, sym, ap, ◌∙◌, arith, rules}
 use Rattle.call_line.specs.Column.{ascii_space, column_of, digits_of, start, cut, total}
 use Rattle.call_line.specs.Line.{Four}
 use Rattle.call_line.proofs.Columns.{part, start_next, within, at_space, at_other, blank, cut_part, wrong_column, right_columns, one_more}
 use Rattle.call_line.proofs.read_columns.Goals as goal
-use Rattle.call_line.proofs.read_columns.Goals.{else-columns-test, then-columns-test+then-loop-first-test+then-first-to, then-columns-test+else-loop-first-test+in-Wrong}
 
 module _ (ws s : List ℕ) (k from first : ℕ) (p : Four ws × (length s ≡ total ws)) (h : k < 4) where
   abbrev to : ℕ
@@ -26,45 +24,43 @@ module _ (ws s : List ℕ) (k from first : ℕ) (p : Four ws × (length s ≡ to
       number : (get_or s first 0 ≡ ascii_space → ⊥) → column_of (cut ws k s) ≡ digits_of (part first to s)
       number n = says ∙ at_other s first to (ends e) i.0 n
 
-      no_number : get_or s first 0 ≡ ascii_space → first + 1 ≡ to → column_of (cut ws k s) ≡ Wrong
+      no_number : get_or s first 0 ≡ ascii_space → first + 1 ≡ to → column_of (cut ws k s) ≡ None
       no_number z q = says ∙ blank s first to (ends e) i.0 z q
 
-pub loop-first-preserved : goal.loop-first-preserved
-loop-first-preserved c =
-    let l = c.loop-first in
-    let t = c.columns in
-    (omega arith, l.invariant.1 ∙ at_space c.args.line.now l.first _ (ends c.args.widths c.args.line.now t.k t.from l.first c.requires c.columns-test.true t.invariant.2) l.invariant.0 c.loop-first-test.true)
+pub loop-from-preserved : goal.loop-from-preserved
+loop-from-preserved c =
+    let l = c.loop-from in
+    let t = c.loop-k in
+    (omega arith, l.invariant.1 ∙ at_space c.args.line.now l.from _ (ends c.args.widths c.args.line.now t.k t.from l.from c.requires c.loop-k-test.true t.invariant.1) l.invariant.0 c.loop-from-test.true)
 
-pub columns-preserved : goal.columns-preserved
-columns-preserved c =
-    let t = c.columns in
+pub loop-k-preserved : goal.loop-k-preserved
+loop-k-preserved c =
+    let t = c.loop-k in
     let ws = c.args.widths in
     let s = c.args.line.now in (
-      omega arith,
-      simp length-set t.invariant.1,
-      ap (λ (x : ℕ). x + get_or ws t.k 0) t.invariant.2 ∙ sym (start_next ws t.k (omega (arith, c.requires.0.long))),
-      one_more ws s t.values t.k c.in-Value.value (omega arith) t.invariant.3
-          (number ws s t.k t.from c.loop-first.first c.requires c.columns-test.true t.invariant.2 c.loop-first.invariant c.loop-first-test.false
-          ∙ sym c.read_number.ensures
-          ∙ c.in-Value.is),
+      simp length-set t.invariant.0,
+      ap (λ (x : ℕ). x + get_or ws t.k 0) t.invariant.1 ∙ sym (start_next ws t.k (omega (arith, c.requires.0.long))),
+      one_more ws s t.values t.k c.in_ok-values.field-0 (omega arith) t.invariant.2
+          (number ws s t.k t.from c.loop-from.from c.requires c.loop-k-test.true t.invariant.1 c.loop-from.invariant c.loop-from-test.false ∙ sym c.in_ok-values.ensures),
     )
 
-pub returns-then-k-lt-COLUMNS : goal.returns-then-k-lt-COLUMNS
-returns-then-k-lt-COLUMNS c =
-    let t = c.columns in
+pub returns-then-from-to : goal.returns-then-from-to
+returns-then-from-to c =
+    let t = c.loop-k in
     let ws = c.args.widths in
     let s = c.args.line.now in
-    let wrong : column_of (cut ws t.k s) ≡ Wrong =
-    elim c.columns-test.branch [
-      | else-columns-test w ↦ absurd (omega arith)
-      | then-columns-test+then-loop-first-test+then-first-to w ↦
-          no_number ws s t.k t.from w.loop-first.first c.requires w.columns-test.true t.invariant.2 w.loop-first.invariant w.loop-first-test.true w.if-first-to.true
-      | then-columns-test+else-loop-first-test+in-Wrong w ↦
-          number ws s t.k t.from w.loop-first.first c.requires w.columns-test.true t.invariant.2 w.loop-first.invariant w.loop-first-test.false
-          ∙ sym w.read_number.ensures
-          ∙ w.in-Wrong.is
-    ] in
-    sym (wrong_column ws s t.k c.if-k-lt-COLUMNS.true wrong)
+    sym (wrong_column ws s t.k c.loop-k-test.true (no_number ws s t.k t.from c.loop-from.from c.requires c.loop-k-test.true t.invariant.1 c.loop-from.invariant c.loop-from-test.true c.if-from-to.true))
+
+pub returns-in_err-values : goal.returns-in_err-values
+returns-in_err-values c =
+    let t = c.loop-k in
+    let ws = c.args.widths in
+    let s = c.args.line.now in
+    let r : c.from_residual.result ≡ None = search rules in
+    r
+    ∙ sym (wrong_column ws s t.k c.loop-k-test.true
+    (number ws s t.k t.from c.loop-from.from c.requires c.loop-k-test.true t.invariant.1 c.loop-from.invariant c.loop-from-test.false ∙ sym c.in_err-values.ensures))
 
 pub returns : goal.returns
-returns c = sym (right_columns c.args.widths c.args.line.now c.columns.values (λ j h. c.columns.invariant.3 j (omega arith)))
+returns c =
+    rw (c.from.ensures, right_columns c.args.widths c.args.line.now c.loop-k.values (λ j h. c.loop-k.invariant.2 j (omega arith)))

@@ -1,6 +1,5 @@
 -- `read_number` meets its contract: the number so far, and the digits ahead, are all. Assumes nothing.
-use Rattle.std.proofs.Common.{◌≡◌, ◌-◌, ◌*◌, ◌/◌, ◌^◌, ◌≤◌, ◌<◌, ◌+◌, ℕ, List, length, get_or, drop, sym, ap, ◌∙◌, true, arith}
-use Rattle.call_line.specs.declared.Number.TheVariants.{Value, Wrong}
+use Rattle.std.proofs.Common.{◌≡◌, ◌-◌, ◌*◌, ◌/◌, ◌^◌, ◌≤◌, ◌<◌, ◌+◌, ℕ, List, length, get_or, drop, Some, None, sym, ap, ◌∙◌, true, arith}
 use Rattle.call_line.specs.Column.{ascii_zero, is_digit, more, digits_of}
 use Rattle.call_line.proofs.Reading.{digits_fit, digit_bounds, more_end, more_over, more_on}
 use Rattle.call_line.proofs.read_number.Goals as goal
@@ -13,10 +12,10 @@ module _
     says : digits_of s ≡ more v (drop (length s - 1) s)
     says = h ∙ ap (λ (j : ℕ). more v (drop j s)) e
 
-    over : (2 ^ 64 - 1 - (get_or s (length s - 1) 0 - ascii_zero)) / 10 < v → digits_of s ≡ Wrong
+    over : (2 ^ 64 - 1 - (get_or s (length s - 1) 0 - ascii_zero)) / 10 < v → digits_of s ≡ None
     over l = says ∙ more_over s (length s - 1) v (omega arith) d (omega (arith, digit_bounds _ d))
 
-    fits : v ≤ (2 ^ 64 - 1 - (get_or s (length s - 1) 0 - ascii_zero)) / 10 → digits_of s ≡ Value (v * 10 + (get_or s (length s - 1) 0 - ascii_zero))
+    fits : v ≤ (2 ^ 64 - 1 - (get_or s (length s - 1) 0 - ascii_zero)) / 10 → digits_of s ≡ Some (v * 10 + (get_or s (length s - 1) 0 - ascii_zero))
     fits l =
         says
         ∙ more_on s (length s - 1) v (omega arith) d (omega (arith, digit_bounds _ d))

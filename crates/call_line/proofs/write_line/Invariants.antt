@@ -1,5 +1,5 @@
 -- `write_line` meets its contract: column by column, and then the newline. Assumes nothing.
-use Rattle.std.proofs.Common.{◌≡◌, ◌-◌, ◌≤◌, length}
+use Rattle.std.proofs.Common.{◌≡◌, length}
 use Rattle.call_line.specs.Column.{start}
 use Rattle.call_line.specs.Line.{wide}
 use Rattle.call_line.proofs.Written.{FirstColumns}
@@ -7,7 +7,4 @@ use Rattle.call_line.proofs.write_line.Given as goal
 
 abbrev pub invariant-loop-k : goal.invariant-loop-k
 invariant-loop-k l =
-    (l.k ≤ 4) × (l.from ≡ start wide l.k) × (length l.out ≡ length l.initial.out) × FirstColumns l.initial.out l.values l.out l.k
-
-abbrev pub decreases-loop-k : goal.decreases-loop-k
-decreases-loop-k l = 4 - l.k
+    (l.from ≡ start wide l.k) × (length l.out ≡ length l.initial.out) × FirstColumns l.initial.out l.values l.out l.k

@@ -3,6 +3,7 @@ use Rattle.call_line.proofs.RoundTrip.{length_column}
 use lib.Seq.{take-suc, take_all, length-take-le}
 use native.Mathlib.Nat.{add-zero}
 use native.Mathlib.Numerals.{add-one}
+use Rattle.refusal.specs.Outcome.{number}
 use Rattle.buffer.specs.Laid.{laid}
 use Rattle.buffer.proofs.Laying.{byte_laid, laid_twice}
 use Rattle.call_line.specs.Column.{column}
@@ -52,8 +53,8 @@ returns c =
     let o = c.put_column.new.out in
     let t : take l.k a.text.now ≡ a.text.now = take_all l.k a.text.now (omega arith) in
     let k : a.w + 2 - a.w ≡ 2 = omega arith in
-    let e : o ≡ laid a.w (column 2 a.refusal) a.out.now =
-    c.put_column.ensures ∙ ap (λ (n : ℕ). laid a.w (column n a.refusal) a.out.now) k in
+    let e : o ≡ laid a.w (column 2 (number a.outcome)) a.out.now =
+    c.put_column.ensures ∙ rw (k, c.number.ensures) in
     sym l.invariant.3
-    ∙ rw (t, e) (laid_twice a.w 2 (column 2 a.refusal) a.out.now (length_column 2 a.refusal)
+    ∙ rw (t, e) (laid_twice a.w 2 (column 2 (number a.outcome)) a.out.now (length_column 2 (number a.outcome))
     (omega (arith, c.requires.1)) a.text.now)

@@ -1,24 +1,11 @@
--- `DataSize::sum` meets its contract. The loop's invariant: what is left of the slice, added to the sum so far, gives the whole sum.
--- Assumes nothing.
-use Rattle.std.proofs.Common.{pos, refl, ap, ◌∙◌, arith, rules}
-use Rattle.float.proofs.Fold.{fold_again, fold_end}
-use Rattle.bandwidth.proofs.Field.{field}
-use Rattle.bandwidth.specs.Size.{add_to, total}
+-- A sum that is refused ends the loop.
+use Rattle.std.proofs.Common.{◌≡◌, Err, pos, get_or, rules}
+use Rattle.refusal.proofs.Outcome.{fold_turn}
+use Rattle.bandwidth.specs.Size.{size, plus}
 use Rattle.bandwidth.proofs.DataSize.sum.Goals as goal
 
-pub loop-i-init : goal.loop-i-init
-unfolding total
-loop-i-init c = (search rules, refl)
-
-pub offset_bounds-sizes-i : goal.offset_bounds-sizes-i
-offset_bounds-sizes-i c = omega (arith, c.well_formed.0.1)
-
-pub loop-i-preserved : goal.loop-i-preserved
-loop-i-preserved c = (
-  search rules,
-  fold_again add_to _ _ _ _ _ (pos 0) c.loop-i-test.true (c.add_to-sum.ensures ∙ ap (add_to _) (field _ c.add_to-arg-1.given))
-      c.loop-i.invariant.1,
-)
-
-pub returns : goal.returns
-returns c = fold_end add_to _ _ _ _ c.loop-i-test.false c.loop-i.invariant.1
+pub returns-in_err-sum : goal.returns-in_err-sum
+returns-in_err-sum c =
+    let refused : plus c.loop-bytes.sum (size (get_or c.args.sizes.now c.loop-bytes.bytes-index (pos 0))) ≡ Err c.in_err-sum.field-0.0 = search rules in
+    let turn = fold_turn (λ sum z. plus sum (size z)) c.loop-bytes.sum c.args.sizes.now c.loop-bytes.bytes-index (pos 0) c.loop-bytes-test.true in
+    rw (← c.loop-bytes.invariant, turn, refused) (search rules)

@@ -1,12 +1,8 @@
--- `DataSize::sum` meets its contract. The loop's invariant: what is left of the slice, added to the sum so far, gives the whole sum.
--- Assumes nothing.
-use Rattle.std.proofs.Common.{◌≡◌, ◌-◌, ◌≤◌, length, drop}
-use mathlib.Core.List.{foldl}
-use Rattle.bandwidth.specs.Size.{add_to, total}
+-- What is left of the slice, added to the sum so far, gives the whole sum.
+use Rattle.std.proofs.Common.{◌≡◌, drop}
+use Rattle.refusal.specs.Outcome.{try_fold}
+use Rattle.bandwidth.specs.Size.{size, plus, total}
 use Rattle.bandwidth.proofs.DataSize.sum.Given as goal
 
-abbrev pub invariant-loop-i : goal.invariant-loop-i
-invariant-loop-i l = (l.i ≤ length l.sizes) × (foldl add_to l.sum (drop l.i l.sizes) ≡ total l.sizes)
-
-abbrev pub decreases-loop-i : goal.decreases-loop-i
-decreases-loop-i l = length l.sizes - l.i
+abbrev pub invariant-loop-bytes : goal.invariant-loop-bytes
+invariant-loop-bytes l = try_fold (λ sum z. plus sum (size z)) l.sum (drop l.bytes-index l.sizes) ≡ total l.sizes

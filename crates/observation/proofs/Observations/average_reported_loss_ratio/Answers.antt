@@ -1,14 +1,17 @@
--- `observation::Observations::average_reported_loss_ratio` meets its contract. Assumes nothing.
-use Rattle.std.proofs.Common.{sym}
-use Rattle.observation.proofs.Sums.{ratio_refused, ratio_is}
+-- `observation::Observations::average_reported_loss_ratio` meets its contract: a slot that is not readable ends the loop. Assumes nothing.
+use Rattle.std.proofs.Common.{arith}
+use Rattle.std.proofs.lemmas.List.Folds.{list_all_at}
+use Rattle.std.proofs.lemmas.Result.{err_from_is_err_and}
+use Rattle.bandwidth.specs.Size.{float}
+use Rattle.observation.specs.Ratio.{readable, average_reported_loss_ratio}
 use Rattle.observation.proofs.Observations.average_reported_loss_ratio.Goals as goal
 
-pub returns-then-refusal-ne0 : goal.returns-then-refusal-ne0
-returns-then-refusal-ne0 c = sym (ratio_refused _ c.loss_sums-sums.ensures c.if-refusal-ne0.true)
+pub returns-in_err-total : goal.returns-in_err-total
+unfolding float readable average_reported_loss_ratio
+returns-in_err-total c =
+    let p = err_from_is_err_and c.from_residual.result c.from_residual.ensures.1 in rw (p.1, p.2) (grind (arith, list_all_at))
 
-pub returns-then-total : goal.returns-then-total
-returns-then-total c = rw (ratio_is c.args.self c.loss_sums-sums.ensures c.if-refusal-ne0.false, c.if-total.true)
-
-pub returns : goal.returns
-returns c =
-    rw (ratio_is c.args.self c.loss_sums-sums.ensures c.if-refusal-ne0.false, c.if-total.false)
+pub returns-in_err-lost : goal.returns-in_err-lost
+unfolding float readable average_reported_loss_ratio
+returns-in_err-lost c =
+    let p = err_from_is_err_and c.from_residual-in_err-lost.result c.from_residual-in_err-lost.ensures.1 in rw (p.1, p.2) (grind (arith, list_all_at))

@@ -1,6 +1,0 @@
--- `DataSize::mbytes` meets its contract. Assumes nothing.
-use Rattle.bandwidth.proofs.Field.{field}
-use Rattle.bandwidth.proofs.DataSize.mbytes.Goals as goal
-
-pub returns : goal.returns
-returns c = rw (c.sized.ensures, c.checked_mul.ensures, field _ c.ranges.mbytes.sfits)

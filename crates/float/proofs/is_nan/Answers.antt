@@ -1,6 +1,0 @@
--- `float::is_nan` meets its contract: only a NaN differs from itself. Assumes nothing.
-use Rattle.float.proofs.Limits.{ne_self}
-use Rattle.float.proofs.is_nan.Goals as goal
-
-pub returns : goal.returns
-returns c = ne_self c.args.x

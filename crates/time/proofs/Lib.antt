@@ -1,0 +1,2 @@
+pub mod Comparisons
+mod Examples
