@@ -1,105 +1,51 @@
--- The program's turns: each feeds what was read, so the chunks so far lead to where it is. Assumes nothing.
-use Prim.Native.Nat.{ℕ, zero, suc, ◌+◌, ◌-◌, ◌/◌, ◌^◌, ◌≤◌, ◌<◌}
-use mathlib.Core.Path.{◌≡◌, refl, sym, ap, subst, ◌∙◌}
-use mathlib.Core.Bool.{true, false, ◌&&◌, true≢false}
-use mathlib.Core.List.{List, [], ◌∷◌, ◌++◌}
-use native.Mathlib.Omega.{arith}
-use borrow.Author.Tests.{ltb-true}
-use lib.Dec.{ltb}
-use lib.ListN.{length, take, drop, length-append, length-take}
-use Rattle.float.proofs.Both.{both}
-use Rattle.std.proofs.Common.{Result, Ok, Err, is_ok, min}
-use Rattle.std.proofs.lemmas.List.{take_min}
-use Rattle.std.specs.declared.io.Error.{Error}
+-- A turn's bytes are fed, or the end of the input finishes. Assumes nothing.
+use Rattle.std.proofs.Common.{ℕ, ◌+◌, ◌≤◌, ◌≡◌, Some, is_some, unwrap_or, IsSome, List, [], ◌∷◌, ◌++◌, Option, arith, length, take, drop, refl, sym, ap, ◌∙◌, length-append}
+use lib.Dec.{lit≤}
 use Rattle.call_list.specs.declared.State.{State}
-use Rattle.call_list.specs.declared.Fed.{Fed}
-use Rattle.call_list.specs.Feed.{Run, row_width, FedBy, roomy, Feeds, Finishes}
-use Rattle.call_list.specs.Whole.{answers, joined, Reached, fed, ended}
-use Rattle.call_list.proofs.Feeding.{room_yes}
-use Rattle.call_list.proofs.Streaming.{in_chunks, so_far, reached_short}
-use Rattle.answer.specs.Turn.{Turned, some_read, goes_on, Stops}
+use Rattle.call_list.specs.Feed.{Run as CallRun, left, left_by, fed, closed, runs, start_of, finished}
+use Rattle.call_list.specs.Whole.{answers, joined, Reached, further, ended}
+use Rattle.call_list.proofs.Feeding.{room_yes, close}
+use Rattle.call_list.proofs.Streaming.{in_chunks, so_far, joined_append}
+use Rattle.turns.specs.Texts.{Begins}
+use Rattle.answer.specs.declared.Answering.{Answering}
+use Rattle.answer.specs.Turn.{Run}
 
--- ---- what a read answered
+pub fresh_run : (a : Answering) → Reached [] [] a.state → Run [] [] a
+unfolding joined
+fresh_run a x = record { chunks = []; cut = refl; reached = x }
 
-pub turns_left : (got : Result ℕ Error) (wrote : Result (Unit {0}) Error) (left : ℕ) → goes_on got wrote left ≡ true → 0 < left
-unfolding goes_on
-turns_left got wrote left e = ltb-true 0 left (both (is_ok wrote) (ltb 0 left) (both (some_read got) (is_ok wrote && ltb 0 left) e).1).1
+-- ---- the room is enough
 
--- ---- what the turn leaves
+module _ (a : Answering) (room : length a.room ≡ 770048) where
+  pub fed_room : (c : List ℕ) → length c ≤ 16384 → fed a.state c a.room ≡ left_by (runs (start_of a.state) c) a.room
+  fed_room c few = room_yes a.state c a.room (rw room (omega (arith, few)))
 
-pub turn_fed :
-    (n : ℕ) (f : Fed) (ts ss fs out : List ℕ) (p : State) (ts₀ ss₀ fs₀ chunk out₀ : List ℕ) → (n ≡ 0 → ⊥)
-    → Feeds f ts ss fs out p ts₀ ss₀ fs₀ (take (min n (length chunk)) chunk) out₀ → Turned (Ok n) f ts ss fs out p ts₀ ss₀ fs₀ chunk out₀
-turn_fed zero f ts ss fs out p ts₀ ss₀ fs₀ chunk out₀ z x = absurd (z refl)
-turn_fed (suc n) f ts ss fs out p ts₀ ss₀ fs₀ chunk out₀ z x =
-    subst (λ read. Feeds f ts ss fs out p ts₀ ss₀ fs₀ read out₀) (take_min (suc n) chunk) x
+  pub close_room : closed a.state a.room ≡ left_by (finished (start_of a.state)) a.room
+  close_room = close a.state a.room (rw room (lit≤ tt))
 
--- the answers have room in the buffer
-fits : (f : Fed) (ts ss fs o : List ℕ) (r : Run) (o₀ : List ℕ) → FedBy f ts ss fs o r o₀ → f.written ≤ length o
-fits f ts ss fs o r o₀ b =
-    let l : length o ≡ length r.out + length (drop (length r.out) o₀) = ap length b.out ∙ length-append r.out (drop (length r.out) o₀) in
-    omega (arith, b.written)
+module _ (o : Option ℕ) (p : State) (out out₀ : List ℕ) (r : CallRun) (x : left o p out ≡ left_by r out₀) where
+  pub is_taken : IsSome o
+  is_taken = ap (λ l. is_some l.written) x
 
-pub turn_fits :
-    (got : Result ℕ Error) (f : Fed) (ts ss fs out : List ℕ) (p : State) (ts₀ ss₀ fs₀ chunk out₀ : List ℕ)
-    → Turned got f ts ss fs out p ts₀ ss₀ fs₀ chunk out₀ → f.written ≤ length out
-turn_fits (Err e') f ts ss fs out p ts₀ ss₀ fs₀ chunk out₀ t = fits f ts ss fs out _ out₀ t.by
-turn_fits (Ok zero) f ts ss fs out p ts₀ ss₀ fs₀ chunk out₀ t = fits f ts ss fs out _ out₀ t.by
-turn_fits (Ok (suc n)) f ts ss fs out p ts₀ ss₀ fs₀ chunk out₀ t = fits f ts ss fs out _ out₀ t.by
+  pub fits : (n : ℕ) → o ≡ Some n → n ≤ length out
+  fits n e =
+      let k : n ≡ length r.out = ap (λ v. unwrap_or v 0) (sym e ∙ ap (λ l. l.written) x) in
+      let m : length out ≡ length r.out + length (drop (length r.out) out₀) = ap (λ l. length l.out) x ∙ length-append r.out (drop (length r.out) out₀) in
+      omega (arith, k, m)
 
--- ---- from turn to turn
+-- ---- what the turns leave
 
--- the chunks so far, one in each turn, lead from the start to the state p
-pub record Running (p : State) (ts ss fs : List ℕ) (left : ℕ) : Type 0 where
-  pub chunks : List (List ℕ)
-  pub w : List ℕ
-  pub reached : Reached chunks w p ts ss fs
-  pub turns : length chunks + left ≡ 2 ^ 64 - 1
+module _ (a : Answering) (input w : List ℕ) (r : Run input w a) (o : Option ℕ) (n : ℕ) (e : o ≡ Some n) (p : State) (out : List ℕ) where
+  pub fed_on :
+      (c : List ℕ) → left o p out ≡ fed a.state c a.room
+      → Run (input ++ c) (w ++ take n out) (record { state = p; room = out }) × Begins answers (input ++ c) (w ++ take n out)
+  fed_on c x =
+      let cut : joined (r.chunks ++ (c ∷ [])) ≡ input ++ c = joined_append r.chunks c ∙ ap (λ l. l ++ c) r.cut in
+      let reached : Reached (r.chunks ++ (c ∷ [])) (w ++ take n out) p =
+      rw (ap (λ l. l.out) (sym x), ap (λ l. l.state) (sym x)) at (further c a.room n r.reached (ap (λ l. l.written) (sym x) ∙ e)) in
+      (record { chunks = r.chunks ++ (c ∷ []); cut = cut; reached = reached }, λ rest. rw (sym cut) (so_far reached rest))
 
-module _
-    (p : State) (ts₀ ss₀ fs₀ chunk out₀ : List ℕ) (left : ℕ) (x : Running p ts₀ ss₀ fs₀ left) (wide : length chunk ≤ length out₀ / row_width)
-    (row : row_width ≤ length out₀)
-  where
-    pub next_turn :
-        (got : Result ℕ Error) (f : Fed) (ts ss fs out : List ℕ) → Turned got f ts ss fs out p ts₀ ss₀ fs₀ chunk out₀ → (wrote : Result (Unit {0}) Error)
-        → goes_on got wrote left ≡ true → Running f.state ts ss fs (left - 1)
-    unfolding goes_on
-    next_turn (Err e') f ts ss fs out t wrote e = absurd (true≢false (sym e))
-    next_turn (Ok zero) f ts ss fs out t wrote e = absurd (true≢false (sym e))
-    next_turn (Ok (suc n)) f ts ss fs out t wrote e =
-        let c = take (suc n) chunk in
-        let l : length c ≤ length out₀ / row_width = omega (arith, length-take (suc n) chunk) in
-        let k = room_yes p.len (length c) (length out₀) (reached_short x.reached) l in
-        let m = turns_left (Ok (suc n)) wrote left e in
-        record {
-          chunks = x.chunks ++ (c ∷ []);
-          w = x.w ++ take f.written out;
-          reached = fed f ts ss fs c out out₀ x.reached t (t.taken ∙ k);
-          turns = rw (length-append x.chunks (c ∷ [])) (omega (arith, x.turns));
-        }
-
-    pub last_turn :
-        (got : Result ℕ Error) (f : Fed) (ts ss fs out : List ℕ) → Turned got f ts ss fs out p ts₀ ss₀ fs₀ chunk out₀ → (wrote : Result (Unit {0}) Error)
-        → goes_on got wrote left ≡ false → Stops (record { got = got; wrote = wrote; fed = f }) ts ss fs chunk out
-    last_turn got f ts ss fs out t wrote e =
-        let k : 2 ^ 64 - 1 - length x.chunks ≡ left = omega (arith, x.turns) in
-        let taken = room_yes p.len 1 (length out₀) (reached_short x.reached) (omega arith) in
-        record {
-          chunks = x.chunks;
-          w = x.w;
-          state = p;
-          times = ts₀;
-          sizes = ss₀;
-          flags = fs₀;
-          buffer = out₀;
-          reached = x.reached;
-          turned = t;
-          last = rw k e;
-          beginning = so_far x.reached;
-          whole = λ z. at_end z taken;
-        }
-      where
-        at_end : got ≡ Ok 0 → roomy p.len 1 (length out₀) ≡ true → x.w ++ take f.written out ≡ answers (joined x.chunks)
-        at_end z k =
-            let y : Finishes f ts ss fs out p ts₀ ss₀ fs₀ out₀ = rw z at t in
-            in_chunks x.chunks _ (ended f ts ss fs out out₀ x.reached y (y.taken ∙ k))
+  pub all_answered : left o p out ≡ closed a.state a.room → w ++ take n out ≡ answers input
+  all_answered x =
+      let q = rw (ap (λ l. l.out) (sym x)) at (ended a.room n r.reached (ap (λ l. l.written) (sym x) ∙ e)) in
+      in_chunks r.chunks _ q ∙ ap answers r.cut

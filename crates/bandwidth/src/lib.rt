@@ -2,7 +2,8 @@
 // in place of Rust's operator.
 #![tactic(auto)]
 
-ghost use Rattle.std.specs.Prelude.{◌≡◌, ◌*◌, ◌&&◌, pos, ◌*ℤ◌};
+ghost use Rattle.std.specs.Prelude.{◌≡◌, ◌*◌, ◌&&◌, pos, ◌*ℤ◌, from_bits, to_bits};
+ghost use Rattle.std.specs.Float.{binary64};
 ghost use Rattle.std.specs.Float.Ieee.{eq};
 ghost use Rattle.std.specs.Float.Ieee.Scale.{finite};
 ghost use Rattle.bandwidth.specs.Rate as Rate;
@@ -47,28 +48,46 @@ impl Bitrate {
         Bitrate { bps }
     }
 
-    #[tactic(auto, unfolding(crate::specs::Rate::whole_rate))]
     pub fn kbps(kbps: u64) -> Result<Bitrate, Refusal>
         ensures { result ≡ Rate.whole_rate (kbps * 1000) }
     {
-        let bps = kbps.checked_mul(1_000).ok_or(Refusal::Arithmetic)?;
-        Ok(Bitrate::bps(bps))
+        Self::in_units(kbps, 1_000)
     }
 
-    #[tactic(auto, unfolding(crate::specs::Rate::whole_rate))]
     pub fn mbps(mbps: u64) -> Result<Bitrate, Refusal>
         ensures { result ≡ Rate.whole_rate (mbps * 1000000) }
     {
-        let bps = mbps.checked_mul(1_000_000).ok_or(Refusal::Arithmetic)?;
-        Ok(Bitrate::bps(bps))
+        Self::in_units(mbps, 1_000_000)
     }
 
-    #[tactic(auto, unfolding(crate::specs::Rate::whole_rate))]
     pub fn gbps(gbps: u64) -> Result<Bitrate, Refusal>
         ensures { result ≡ Rate.whole_rate (gbps * 1000000000) }
     {
-        let bps = gbps.checked_mul(1_000_000_000).ok_or(Refusal::Arithmetic)?;
-        Ok(Bitrate::bps(bps))
+        Self::in_units(gbps, 1_000_000_000)
+    }
+
+    // n units of so many bit/s
+    #[tactic(auto, unfolding(crate::specs::Rate::whole_rate))]
+    fn in_units(n: u64, unit: u64) -> Result<Bitrate, Refusal>
+        ensures { result ≡ Rate.whole_rate (n * unit) }
+    {
+        let bps = n.checked_mul(unit).ok_or(Refusal::Arithmetic)?;
+        Ok(Self::bps(bps))
+    }
+
+    // The rate whose float has these bits.
+    pub fn from_bits(bits: u64) -> Bitrate
+        ensures { result ≡ Rate.rate (from_bits binary64 bits) }
+    {
+        Bitrate {
+            bps: float::from_bits(bits),
+        }
+    }
+
+    pub fn to_bits(self) -> u64
+        ensures { result ≡ to_bits binary64 self.bps }
+    {
+        float::to_bits(self.bps)
     }
 
     pub fn as_f64(self) -> f64
@@ -78,11 +97,11 @@ impl Bitrate {
     }
 
     // The bits per second rounded upwards, at most u64::MAX.
-    #[tactic(auto, unfolding(crate::specs::Rate::upwards))]
+    #[tactic(auto, using(float::proofs::Std::ceiling_is), unfolding(crate::specs::Rate::upwards))]
     pub fn as_u64(self) -> u64
         ensures { result ≡ Rate.upwards self }
     {
-        float::as_u64(float::ceil(self.bps))
+        std::num::saturating_f64_to_u64(self.bps.ceil())
     }
 
     #[tactic(auto, unfolding(crate::specs::Rate::clamped))]
@@ -109,10 +128,11 @@ impl Bitrate {
         Bitrate { bps }
     }
 
+    #[tactic(auto, using(float::proofs::Std::finite_is))]
     pub fn is_valid(self) -> bool
         ensures { result ≡ finite self.bps }
     {
-        float::is_finite(self.bps)
+        self.bps.is_finite()
     }
 
     #[tactic(auto, unfolding(crate::specs::Rate::valid))]
@@ -129,11 +149,11 @@ impl Bitrate {
     }
 
     // Sub: Rust asserts that the first is at least the second; here the rest is refused.
-    #[tactic(auto, unfolding(crate::specs::Rate::minus))]
+    #[tactic(auto, using(float::proofs::Std::partial_ge_is), unfolding(crate::specs::Rate::minus))]
     pub fn sub(self, rhs: Bitrate) -> Result<Bitrate, Refusal>
         ensures { result ≡ Rate.minus self rhs }
     {
-        if self.bps >= rhs.bps {
+        if self >= rhs {
             return Ok(Bitrate {
                 bps: self.bps - rhs.bps,
             });
@@ -143,11 +163,11 @@ impl Bitrate {
 
     // What finite operands gave is at most MOST. An operand that is not finite stands for an absent
     // rate, and what came of it stays.
-    #[tactic(auto, unfolding(crate::specs::Rate::limited))]
+    #[tactic(auto, using(float::proofs::Std::partial_gt_is), unfolding(crate::specs::Rate::limited))]
     pub fn limited(self, operands_finite: bool) -> Bitrate
         ensures { result ≡ Rate.limited operands_finite self }
     {
-        if operands_finite && self.bps > Bitrate::MOST.bps {
+        if operands_finite && self > Bitrate::MOST {
             return Bitrate::MOST;
         }
         self
@@ -176,11 +196,11 @@ impl Mul<Duration> for Bitrate {
 
     ghost mul_gives = { λ rate d size. size ≡ Rate.carried rate d };
 
-    #[tactic(auto, unfolding(crate::specs::Rate::carried))]
+    #[tactic(auto, using(float::proofs::Std::half_away_is), unfolding(crate::specs::Rate::carried))]
     fn mul(self, rhs: Duration) -> DataSize {
         let bits = self.bps * rhs.as_secs_f64();
         let bytes = bits / 8.0;
-        DataSize::bytes(float::as_i64(float::round(bytes)))
+        DataSize::bytes(std::num::saturating_f64_to_i64(bytes.round()))
     }
 }
 
@@ -228,10 +248,11 @@ impl Div<f64> for Bitrate {
     }
 }
 
+#[tactic(auto, using(float::proofs::Std::finite_is))]
 fn are_finite(a: f64, b: f64) -> bool
     ensures { result ≡ (finite a && finite b) }
 {
-    float::is_finite(a) && float::is_finite(b)
+    a.is_finite() && b.is_finite()
 }
 
 // 2^53: up to it each whole number is a float.
@@ -249,21 +270,27 @@ impl DataSize {
     pub fn kbytes(kbytes: i64) -> Result<DataSize, Refusal>
         ensures { result ≡ Size.fitted (kbytes *ℤ pos 1024) }
     {
-        let bytes = integer::checked_mul(kbytes, 1_024)?;
-        Ok(DataSize { bytes })
+        Self::in_units(kbytes, 1_024)
     }
 
     pub fn mbytes(mbytes: i64) -> Result<DataSize, Refusal>
         ensures { result ≡ Size.fitted (mbytes *ℤ pos 1048576) }
     {
-        let bytes = integer::checked_mul(mbytes, 1_048_576)?;
-        Ok(DataSize { bytes })
+        Self::in_units(mbytes, 1_048_576)
     }
 
     pub fn gbytes(gbytes: i64) -> Result<DataSize, Refusal>
         ensures { result ≡ Size.fitted (gbytes *ℤ pos 1073741824) }
     {
-        let bytes = integer::checked_mul(gbytes, 1_073_741_824)?;
+        Self::in_units(gbytes, 1_073_741_824)
+    }
+
+    // n units of so many bytes
+    #[tactic(auto, using(integer::proofs::Signed::fitted_by))]
+    fn in_units(n: i64, unit: i64) -> Result<DataSize, Refusal>
+        ensures { result ≡ Size.fitted (n *ℤ unit) }
+    {
+        let bytes = n.checked_mul(unit).ok_or(Refusal::Arithmetic)?;
         Ok(DataSize { bytes })
     }
 
@@ -278,11 +305,11 @@ impl DataSize {
         Err(Refusal::Arithmetic)
     }
 
-    #[tactic(auto, unfolding(crate::specs::Size::unsigned))]
+    #[tactic(auto, using(integer::proofs::Signed::unsigned_from, integer::proofs::Signed::not_unsigned), unfolding(crate::specs::Size::unsigned))]
     pub fn as_bytes_usize(self) -> Result<usize, Refusal>
         ensures { result ≡ Size.unsigned self }
     {
-        integer::to_usize(self.bytes)
+        Ok(usize::try_from(self.bytes)?)
     }
 
     pub fn as_bytes_i64(self) -> i64
@@ -327,38 +354,39 @@ impl DataSize {
     }
 
     // Mul<i64>, whose answer is a number of bytes and no DataSize.
-    #[tactic(auto, unfolding(crate::specs::Size::times_signed))]
+    #[tactic(auto, using(integer::proofs::Signed::fitted_by), unfolding(crate::specs::Size::times_signed))]
     pub fn mul_i64(self, rhs: i64) -> Result<i64, Refusal>
         ensures { result ≡ Size.times_signed self rhs }
     {
-        integer::checked_mul(self.bytes, rhs)
+        self.bytes.checked_mul(rhs).ok_or(Refusal::Arithmetic)
     }
 
     // Mul<u64>: a factor above i64::MAX is refused, where Rust wraps it.
-    #[tactic(auto, unfolding(crate::specs::Size::times_unsigned))]
+    #[tactic(auto, using(integer::proofs::Signed::fitted_from, integer::proofs::Signed::not_fitted), unfolding(crate::specs::Size::times_unsigned, integer::specs::Fitted::fitted))]
     pub fn mul_u64(self, rhs: u64) -> Result<DataSize, Refusal>
         ensures { result ≡ Size.times_unsigned self rhs }
     {
-        let factor = integer::from_u64(rhs)?;
-        let bytes = integer::checked_mul(self.bytes, factor)?;
-        Ok(DataSize { bytes })
+        let factor = i64::try_from(rhs)?;
+        Self::in_units(self.bytes, factor)
     }
 
     // Sub and SubAssign
-    #[tactic(auto, unfolding(crate::specs::Size::minus))]
+    #[tactic(auto, using(integer::proofs::Signed::fitted_by, integer::proofs::Signed::read_is), unfolding(crate::specs::Size::minus))]
     pub fn sub(self, rhs: DataSize) -> Result<DataSize, Refusal>
         ensures { result ≡ Size.minus self rhs }
     {
-        let bytes = integer::checked_sub(self.bytes, rhs.bytes)?;
+        let difference = self.bytes.checked_sub(rhs.bytes);
+        let bytes = difference.ok_or(Refusal::Arithmetic)?;
         Ok(DataSize { bytes })
     }
 
     // Add and AddAssign
-    #[tactic(auto, unfolding(crate::specs::Size::plus))]
+    #[tactic(auto, using(integer::proofs::Signed::fitted_by), unfolding(crate::specs::Size::plus))]
     pub fn add(self, rhs: DataSize) -> Result<DataSize, Refusal>
         ensures { result ≡ Size.plus self rhs }
     {
-        let bytes = integer::checked_add(self.bytes, rhs.bytes)?;
+        let sum = self.bytes.checked_add(rhs.bytes);
+        let bytes = sum.ok_or(Refusal::Arithmetic)?;
         Ok(DataSize { bytes })
     }
 
@@ -367,11 +395,10 @@ impl DataSize {
     pub fn sum(sizes: &[i64]) -> Result<DataSize, Refusal>
         ensures { result ≡ Size.total sizes.now }
     {
-        let mut sum = DataSize::ZERO;
-        for bytes in sizes {
-            sum = sum.add(DataSize::bytes(*bytes))?;
-        }
-        Ok(sum)
+        sizes.iter().try_fold(
+            DataSize::ZERO,
+            |sum, bytes| sum.add(DataSize::bytes(*bytes)),
+        )
     }
 }
 
@@ -380,8 +407,9 @@ impl TryFrom<usize> for DataSize {
 
     ghost try_from_gives = { λ value size. size ≡ Size.fitted (pos value) };
 
+    #[tactic(auto, using(integer::proofs::Signed::fitted_from, integer::proofs::Signed::not_fitted))]
     fn try_from(value: usize) -> Result<DataSize, Refusal> {
-        let bytes = integer::from_u64(value as u64)?;
+        let bytes = i64::try_from(value)?;
         Ok(DataSize { bytes })
     }
 }

@@ -6,11 +6,11 @@ use mathlib.Core.List.{List, [], ◌∷◌}
 use borrow.Author.Tests.{eqb-true}
 use lib.Dec.{eqb}
 use lib.ListN.{length, get_or}
-use Rattle.float.proofs.Both.{both}
+use Rattle.std.proofs.lemmas.Bool.{and_parts}
 use Rattle.std.proofs.Common.{Option, Some, None, Result, Ok, Err}
 use Rattle.refusal.specs.declared.Refusal.{Refusal}
 use Rattle.refusal.specs.declared.Refusal.TheVariants.{Flag, NotInShape}
-use Rattle.loss_controller.specs.Setters.{check_time}
+use Rattle.packets.specs.Summary.{check_time}
 use Rattle.call_line.specs.declared.Fields.{Fields}
 use Rattle.call_line.specs.declared.Call.{Call}
 use Rattle.call_line.specs.declared.Call.TheVariants.{Estimate, Acknowledged, AlrOn, AlrOff, CapacityIs, CapacityNone, Packet, Report, Read, StartBytes, StartPackets}
@@ -21,7 +21,7 @@ use Rattle.call_line.proofs.Columns.{Shape}
 use Rattle.call_line.proofs.RoundTrip.{Fits, length_row, line_written, fields_fit, line_read}
 
 two_zeros : (b c : ℕ) → zeros b c ≡ true → (b ≡ 0) × (c ≡ 0)
-two_zeros b c e = let h = both (eqb b 0) (eqb c 0) e in (eqb-true b 0 h.0, eqb-true c 0 h.1)
+two_zeros b c e = let h = and_parts (eqb b 0) (eqb c 0) e in (eqb-true b 0 h.0, eqb-true c 0 h.1)
 
 -- what is taken is the call
 taken_is : (check : Result (Unit {0}) Refusal) (call found : Call) → unless_refused check call ≡ Ok found → found ≡ call
@@ -36,7 +36,7 @@ flag_is :
     → values_of found ≡ k ∷ a ∷ b ∷ c ∷ []
 unfolding by_flag
 flag_is k a b c check off on found x y h e =
-    let p = both (eqb c 0) (not (eqb b 0) || eqb a 0) h in
+    let p = and_parts (eqb c 0) (not (eqb b 0) || eqb a 0) h in
     rw (eqb-true c 0 p.0) (pick (eqb b 0) (eqb b 1) refl refl p.1 e)
   where
     pick :
@@ -48,15 +48,12 @@ flag_is k a b c check off on found x y h e =
     pick false false p q h e = cc
 
 start_is : (b : ℕ) (found : Call) → start_of b ≡ Ok found → values_of found ≡ 8 ∷ 0 ∷ b ∷ 0 ∷ []
-unfolding start_of by_flag values_of
-start_is b found e = pick (eqb b 0) (eqb b 1) refl refl e
+unfolding start_of unless_refused values_of
+start_is b found e = flag_is 8 0 b 0 (Ok tt) StartBytes StartPackets found refl refl (nought (eqb b 0)) e
   where
-    pick :
-        (t u : Bool) → eqb b 0 ≡ t → eqb b 1 ≡ u → ◌≡◌ {A = Result Call Refusal} (cond t (Ok StartBytes) (cond u (Ok StartPackets) (Err Flag))) (Ok found)
-        → values_of found ≡ 8 ∷ 0 ∷ b ∷ 0 ∷ []
-    pick true u p q e = let f : found ≡ StartBytes = cc in rw (eqb-true b 0 p, f)
-    pick false true p q e = let f : found ≡ StartPackets = cc in rw (eqb-true b 1 q, f)
-    pick false false p q e = cc
+    nought : (t : Bool) → not t || true ≡ true
+    nought true = refl
+    nought false = refl
 
 values : (k a b c : ℕ) (call : Call) → in_table k a b c ≡ true → call_of k a b c ≡ Ok call → values_of call ≡ k ∷ a ∷ b ∷ c ∷ []
 unfolding in_table call_of values_of alr_of capacity_of packet_of
@@ -69,7 +66,7 @@ values (suc (suc (suc (suc zero)))) a b c call h e =
 values (suc (suc (suc (suc (suc zero))))) a b c call h e = rw (taken_is _ _ call e)
 values (suc (suc (suc (suc (suc (suc zero)))))) a b c call h e = let z = two_zeros b c h in rw (taken_is _ _ call e, z.0, z.1)
 values (suc (suc (suc (suc (suc (suc (suc zero))))))) a b c call h e =
-    let p = both (eqb a 0) (zeros b c) h in
+    let p = and_parts (eqb a 0) (zeros b c) h in
     let z = two_zeros b c p.1 in
     let f : call ≡ Read = cc in rw (f, eqb-true a 0 p.0, z.0, z.1)
 values (suc (suc (suc (suc (suc (suc (suc (suc zero)))))))) a b c call h e = let z = two_zeros a c h in rw (z.0, z.1) (start_is b call e)

@@ -14,9 +14,9 @@ use Rattle.refusal.specs.declared.Refusal.TheVariants.{NotInShape}
 use Rattle.call_line.specs.declared.LineRefusal.TheVariants.{Other}
 use Rattle.std.proofs.Common.{None, Ok, Err}
 use Rattle.call_line.specs.Column.{is_digit, digits_of, leading_spaces, column_of, start, total, cut}
-use Rattle.call_line.specs.Line.{wide, narrow, Four, fields_in, fields_of, said, line_of}
+use Rattle.call_line.specs.Line.{wide, narrow, fields_in, fields_of, said, line_of}
 use Rattle.call_line.proofs.Reading.{no_digit}
-use Rattle.call_line.proofs.Columns.{wrong_column, Shape, wide_shape, narrow_shape, other_width, Told, is_wide, is_narrow, other, told_by_length}
+use Rattle.call_line.proofs.Columns.{Four, wrong_column, Shape, wide_shape, narrow_shape, other_width, Told, is_wide, is_narrow, other, told_by_length}
 
 -- no byte of s is a newline
 abbrev pub Clear : List ℕ → Type 0

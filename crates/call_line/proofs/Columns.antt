@@ -1,19 +1,17 @@
 -- A line's columns by their number. Assumes nothing.
-use Prim.Native.Nat.{ℕ, zero, suc, ◌+◌, ◌-◌, ◌≤◌, ◌<◌}
-use mathlib.Core.Path.{◌≡◌, refl, sym, ap, ◌∙◌}
+use Prim.Native.Nat.{ℕ, zero, suc, ◌+◌, ◌≤◌, ◌<◌}
+use mathlib.Core.Path.{◌≡◌, refl, sym}
 use mathlib.Core.Bool.{Bool, true, false}
 use mathlib.Core.List.{List, [], ◌∷◌}
-use native.Mathlib.Decide.{dec_lt}
 use native.Mathlib.Nat.{add-zero, zero-add, suc-add, add_assoc}
-use native.Mathlib.Numerals.{add-one}
 use native.Mathlib.Omega.{arith}
 use borrow.Author.Tests.{eq-eqb, ne_eqb, eqb-true, eqb-false}
 use lib.Dec.{eqb, lit<}
-use lib.ListN.{length, get_or, take, drop, set}
-use lib.Seq.{drop-cons, get_or-set_same, get_or-set_other}
+use lib.ListN.{length, get_or, take, drop, length-drop}
+use lib.Seq.{drop-drop, take_all}
 use Rattle.std.proofs.Common.{Option, Some, None}
 use Rattle.call_line.specs.Column.{ascii_space, digits_of, leading_spaces, column_of, start, total, cut}
-use Rattle.call_line.specs.Line.{wide, narrow, Four, four, fields_in, fields_of, fields}
+use Rattle.call_line.specs.Line.{wide, narrow, four, fields_in, fields_of}
 
 -- ---- where columns start
 
@@ -33,38 +31,41 @@ starts_within (w ∷ ws) (suc k) h = omega (arith, starts_within ws k (omega ari
 pub within : (ws : List ℕ) (k : ℕ) → k < length ws → start ws k + get_or ws k 0 ≤ total ws
 within ws k h = omega (arith, start_next ws k h, starts_within ws (k + 1) (omega arith))
 
--- ---- the part of a line from a place to another
+-- ---- a column
 
-abbrev pub part : ℕ → ℕ → List ℕ → List ℕ
-part from to s = take (to - from) (drop from s)
+-- spaces before it say nothing
+pub after_spaces :
+    (s : List ℕ) (i : ℕ) → i < length s → ((k : ℕ) → k < i → get_or s k 0 ≡ ascii_space) → (get_or s i 0 ≡ ascii_space → ⊥)
+    → column_of s ≡ digits_of (drop i s)
+unfolding column_of leading_spaces
+after_spaces [] i l h n = absurd (omega arith)
+after_spaces (b ∷ s) zero l h n = simp (ne_eqb _ _ n)
+after_spaces (b ∷ s) (suc i) l h n =
+    simp (eq-eqb _ _ (h 0 (omega arith))) (after_spaces s i (omega arith) (λ k u. h (suc k) (omega arith)) n)
 
-module _ (s : List ℕ) (from to : ℕ) (h : to ≤ length s) (l : from < to) where
-  part_cons : part from to s ≡ get_or s from 0 ∷ part (from + 1) to s
-  part_cons =
-      let w : to - from ≡ suc (to - (from + 1)) = omega arith in
-      rw (w, drop-cons s from 0 (omega arith), add-one)
-
-  -- a space before it says nothing
-  pub at_space : get_or s from 0 ≡ ascii_space → column_of (part from to s) ≡ column_of (part (from + 1) to s)
-  unfolding column_of leading_spaces
-  at_space e = rw part_cons (simp (eq-eqb _ _ e))
-
-  pub at_other : (get_or s from 0 ≡ ascii_space → ⊥) → column_of (part from to s) ≡ digits_of (part from to s)
-  unfolding column_of leading_spaces
-  at_other n = rw part_cons (simp (ne_eqb _ _ n))
-
-  -- nothing but spaces
-  pub blank : get_or s from 0 ≡ ascii_space → from + 1 ≡ to → column_of (part from to s) ≡ None
-  unfolding column_of leading_spaces digits_of
-  blank e q = let z : to - (from + 1) ≡ 0 = omega arith in at_space e ∙ rw z
+-- nothing but spaces
+pub blank : (s : List ℕ) → ((k : ℕ) → k < length s → get_or s k 0 ≡ ascii_space) → column_of s ≡ None
+unfolding column_of leading_spaces digits_of
+blank [] h = refl
+blank (b ∷ s) h = simp (eq-eqb _ _ (h 0 (omega arith))) (blank s (λ k u. h (suc k) (omega arith)))
 
 -- ---- four columns
 
--- the column k of a line, by where it starts and ends
-pub cut_part : (ws s : List ℕ) (k from : ℕ) → from ≡ start ws k → cut ws k s ≡ part from (from + get_or ws k 0) s
-cut_part ws s k from e =
-    let w : get_or ws k 0 ≡ from + get_or ws k 0 - from = omega arith in
-    ap (λ (j : ℕ). take (get_or ws k 0) (drop j s)) (sym e) ∙ ap (λ (j : ℕ). take j (drop from s)) w
+-- each is cut off what those before it leave, and the last is what is left
+pub columns_cut :
+    (ws s : List ℕ) → length ws ≡ 4 → length s ≡ total ws
+    → fields_in ws s ≡ four (column_of (take (get_or ws 0 0) s)) (column_of (take (get_or ws 1 0) (drop (get_or ws 0 0) s)))
+    (column_of (take (get_or ws 2 0) (drop (get_or ws 1 0) (drop (get_or ws 0 0) s))))
+    (column_of (drop (get_or ws 2 0) (drop (get_or ws 1 0) (drop (get_or ws 0 0) s))))
+unfolding fields_in
+columns_cut [] s e l = absurd (omega arith)
+columns_cut (k ∷ []) s e l = absurd (omega arith)
+columns_cut (k ∷ a ∷ []) s e l = absurd (omega arith)
+columns_cut (k ∷ a ∷ b ∷ []) s e l = absurd (omega arith)
+columns_cut (k ∷ a ∷ b ∷ c ∷ []) s e l =
+    let w : length (drop (k + (a + b)) s) ≤ c = omega (arith, length-drop (k + (a + b)) s) in
+    rw (drop-drop a k s, drop-drop b (k + a) s, add_assoc k a b, add-zero, add-zero, add-zero, take_all c (drop (k + (a + b)) s) w)
+columns_cut (k ∷ a ∷ b ∷ c ∷ d ∷ ws) s e l = absurd (omega arith)
 
 four_1 : (a b c : Option ℕ) → four a None b c ≡ None
 unfolding four
@@ -93,24 +94,12 @@ module _ (ws s : List ℕ) where
   wrong_column (suc (suc (suc zero))) h w = simp (w, four_3)
   wrong_column (suc (suc (suc (suc k)))) h w = absurd (omega arith)
 
-  pub right_columns :
-      (v : List ℕ) → ((j : ℕ) → j < 4 → column_of (cut ws j s) ≡ Some (get_or v j 0))
-      → fields_in ws s ≡ Some (fields v)
-  unfolding fields_in four
-  right_columns v h = simp (h 0 (omega arith), h 1 (omega arith), h 2 (omega arith), h 3 (omega arith))
-
-  -- one more column is stored
-  pub one_more :
-      (v : List ℕ) (k n : ℕ) → k < length v
-      → ((j : ℕ) → j < k → column_of (cut ws j s) ≡ Some (get_or v j 0)) → column_of (cut ws k s) ≡ Some n
-      → (j : ℕ) → j < k + 1 → column_of (cut ws j s) ≡ Some (get_or (set v k n) j 0)
-  one_more v k n l h e j u = pick (dec_lt j k)
-    where
-      pick : Dec (j < k) → column_of (cut ws j s) ≡ Some (get_or (set v k n) j 0)
-      pick (yes p) = rw (get_or-set_other v k j n 0 (λ q. omega arith)) (h j p)
-      pick (no m) = let q : j ≡ k = omega (arith, m) in rw (q, get_or-set_same v k n 0) e
-
 -- ---- a line told by its length
+
+-- four columns, none of them without places
+pub record Four (ws : List ℕ) : Type 0 where
+  pub long : length ws ≡ 4
+  pub places : (k : ℕ) → k < 4 → 0 < get_or ws k 0
 
 -- four columns by which a line is read that is as long as they are wide
 pub record Shape (ws : List ℕ) : Type 0 where

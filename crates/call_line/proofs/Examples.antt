@@ -4,8 +4,8 @@ use Rattle.std.specs.Float.Ieee.{of_bits, to_bits, lt}
 use Rattle.float.specs.Rust.{sign_bit}
 use Rattle.refusal.specs.Outcome.{number}
 use Rattle.refusal.specs.declared.Refusal.TheVariants.{NotInShape, Rate, Time, Flag, PacketSize}
-use Rattle.packets.specs.Summary.{check_packet}
-use Rattle.loss_controller.specs.Setters.{check_rate, check_time}
+use Rattle.packets.specs.Summary.{check_time, check_packet}
+use Rattle.loss_controller.specs.Setters.{check_rate}
 use Rattle.call_line.specs.declared.Call.TheVariants.{Estimate, Acknowledged, AlrOn, AlrOff, CapacityIs, CapacityNone, Packet, Report, Read, StartBytes, StartPackets}
 use Rattle.call_line.specs.declared.LineRefusal.TheVariants.{Report as LineRefusal-as-Report, Other}
 use Rattle.call_line.specs.Column.{is_digit, more, after_zero, digits_of, leading_spaces, column_of, column, row}
@@ -61,8 +61,8 @@ placed :
 unfolding column
 placed = refl
 
--- the last two digits of 105, and five of it
-last_digits_lem : map (λ w. last_digits w 105) (2 ∷ 5 ∷ []) ≡ (5 ∷ 0 ∷ []) ∷ (5 ∷ 0 ∷ 1 ∷ 0 ∷ 0 ∷ []) ∷ []
+-- the last two digits of 105, and five of it: "05" and "00105"
+last_digits_lem : map (λ w. last_digits w 105) (2 ∷ 5 ∷ []) ≡ (48 ∷ 53 ∷ []) ∷ (48 ∷ 48 ∷ 49 ∷ 48 ∷ 53 ∷ []) ∷ []
 unfolding last_digits
 last_digits_lem = refl
 

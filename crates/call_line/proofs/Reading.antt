@@ -1,16 +1,16 @@
 -- What a column says, byte by byte: the laws of its reading. Assumes nothing.
 use Prim.Native.Nat.{ℕ, zero, suc, ◌+◌, ◌-◌, ◌*◌, ◌^◌, ◌≤◌, ◌<◌}
 use mathlib.Core.Path.{◌≡◌, refl}
-use mathlib.Core.Bool.{Bool, true, false, cond, ◌&&◌, true≢false}
-use mathlib.Core.List.{List, [], ◌∷◌}
+use mathlib.Core.Bool.{Bool, true, false, cond, true≢false}
+use mathlib.Core.List.{List, [], ◌∷◌, ◌++◌}
 use native.Mathlib.Nat.{pow-suc, pow-le-pow_right}
 use native.Mathlib.Numerals.{add-one}
 use native.Mathlib.Omega.{arith}
-use borrow.Author.Tests.{leb-true, ltb-true, lt-ltb, le-ltb, eq-eqb, ne_eqb, eqb-true, eqb-false}
-use lib.Dec.{eqb, leb, ltb, lit<}
+use borrow.Author.Tests.{leb-true, lt-ltb, le-ltb, eq-eqb, ne_eqb, eqb-true}
+use lib.Dec.{eqb, leb, lit<}
 use lib.ListN.{length, get_or, drop, drop_of_length-le}
 use lib.Seq.{drop-cons}
-use Rattle.float.proofs.Both.{both}
+use Rattle.std.proofs.lemmas.Bool.{and_parts}
 use Rattle.std.proofs.Common.{Option, Some, None}
 use Rattle.call_line.specs.Column.{ascii_nine, ascii_zero, is_digit, more, after_zero, digits_of}
 
@@ -50,7 +50,7 @@ more_end s i v h = simp (drop_of_length-le s h)
 pub digit_bounds : (b : ℕ) → is_digit b ≡ true → (ascii_zero ≤ b) × (b ≤ ascii_nine)
 unfolding is_digit
 digit_bounds b e =
-    let h = both (leb ascii_zero b) (leb b ascii_nine) e in (leb-true _ _ h.0, leb-true _ _ h.1)
+    let h = and_parts (leb ascii_zero b) (leb b ascii_nine) e in (leb-true _ _ h.0, leb-true _ _ h.1)
 
 -- 19 digits fit a u64: those before the place i make v, and b is there
 pub digits_fit :
@@ -61,6 +61,10 @@ digits_fit i v b u f d =
     let m : 10 ^ suc i ≤ 10 ^ 19 = pow-le-pow_right (lit< tt) {j = 19} (omega arith) in
     (rw (add-one i) w, omega arith)
 
+pub more_stop : (s : List ℕ) (i v : ℕ) → i < length s → is_digit (get_or s i 0) ≡ false → more v (drop i s) ≡ None
+unfolding more
+more_stop s i v h e = rw (drop-cons s i 0) (simp e)
+
 module _ (s : List ℕ) (i v : ℕ) (h : i < length s) (d : is_digit (get_or s i 0) ≡ true) where
   pub more_over : 2 ^ 64 ≤ v * 10 + (get_or s i 0 - ascii_zero) → more v (drop i s) ≡ None
   unfolding more
@@ -69,6 +73,21 @@ module _ (s : List ℕ) (i v : ℕ) (h : i < length s) (d : is_digit (get_or s i
   pub more_on : v * 10 + (get_or s i 0 - ascii_zero) < 2 ^ 64 → more v (drop i s) ≡ more (v * 10 + (get_or s i 0 - ascii_zero)) (drop (i + 1) s)
   unfolding more
   more_on l = rw (add-one, drop-cons s i 0) (simp (d, lt-ltb _ _ l))
+
+-- the same with more digits t behind those of s
+module _ (s t : List ℕ) (i v : ℕ) (h : i < length s) where
+  pub stop_ahead : is_digit (get_or s i 0) ≡ false → more v (drop i s ++ t) ≡ None
+  unfolding more
+  stop_ahead e = rw (drop-cons s i 0) (simp e)
+
+  pub on_ahead :
+      is_digit (get_or s i 0) ≡ true → v * 10 + (get_or s i 0 - ascii_zero) < 2 ^ 64
+      → more v (drop i s ++ t) ≡ more (v * 10 + (get_or s i 0 - ascii_zero)) (drop (i + 1) s ++ t)
+  unfolding more
+  on_ahead d l = rw (add-one, drop-cons s i 0) (simp (d, lt-ltb _ _ l))
+
+pub end_ahead : (s t : List ℕ) (i v : ℕ) → length s ≤ i → more v (drop i s ++ t) ≡ more v t
+end_ahead s t i v h = simp (drop_of_length-le s h)
 
 -- ---- a byte that is no digit
 
@@ -97,36 +116,3 @@ no_digit [] i h o = absurd (omega arith)
 no_digit (b ∷ s) zero h o = simp (ne_eqb _ _ (not_zero b o), more_wrong 0 (b ∷ s) 0 h o)
 no_digit (b ∷ s) (suc i) h o =
     simp (more_wrong 0 (b ∷ s) (suc i) h o, not_alone s i (omega arith), wrong_either)
-
--- ---- more digits than 20
-
--- wrong with the next digit
-more_ahead :
-    (v b : ℕ) (s : List ℕ)
-    → (is_digit b ≡ true → v * 10 + (b - ascii_zero) < 2 ^ 64 → more (v * 10 + (b - ascii_zero)) s ≡ None) → more v (b ∷ s) ≡ None
-unfolding more
-more_ahead v b s h = pick (is_digit b && ltb (v * 10 + (b - ascii_zero)) (2 ^ 64)) refl
-  where
-    pick :
-        (t : Bool) → (is_digit b && ltb (v * 10 + (b - ascii_zero)) (2 ^ 64)) ≡ t → cond t (more (v * 10 + (b - ascii_zero)) s) None ≡ None
-    pick true e = let d = both (is_digit b) (ltb (v * 10 + (b - ascii_zero)) (2 ^ 64)) e in h d.0 (ltb-true _ _ d.1)
-    pick false e = refl
-
--- v has more digits than k, and with those of s more than 20
-more_many : (s : List ℕ) (k v : ℕ) → 10 ^ k ≤ v → v < 2 ^ 64 → 20 ≤ k + length s → more v s ≡ None
-more_many [] k v l u n =
-    let m : 10 ^ 20 ≤ 10 ^ k = pow-le-pow_right (lit< tt) {i = 20} (omega arith) in
-    absurd (omega arith)
-more_many (b ∷ s) k v l u n =
-    more_ahead v b s (λ d f. more_many s (suc k) (v * 10 + (b - ascii_zero)) (omega (arith, pow-suc 10 k)) f (omega arith))
-
-pub too_many : (s : List ℕ) → 20 < length s → digits_of s ≡ None
-unfolding digits_of
-too_many [] l = absurd (omega arith)
-too_many (b ∷ s) l = pick (eqb b ascii_zero) refl
-  where
-    pick : (t : Bool) → eqb b ascii_zero ≡ t → cond t (after_zero s) (more 0 (b ∷ s)) ≡ None
-    pick true q = not_alone s 0 (omega arith)
-    pick false q =
-        let p : b ≡ ascii_zero → ⊥ = eqb-false b ascii_zero q in
-        more_ahead 0 b s (λ d f. more_many s 0 (0 * 10 + (b - ascii_zero)) (omega (arith, p, digit_bounds b d)) f (omega arith))

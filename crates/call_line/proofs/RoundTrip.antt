@@ -15,9 +15,9 @@ use Rattle.std.proofs.Common.{Option, Some, None}
 use Rattle.call_line.specs.Column.{ascii_nine, ascii_space, ascii_zero, is_digit, more, after_zero, digits_of, leading_spaces, column_of, column, start}
 use Rattle.call_line.specs.Column.{total, cut, row}
 use Rattle.call_line.specs.declared.Fields.{Fields}
-use Rattle.call_line.specs.Line.{Four, four, fields_in, fields}
+use Rattle.call_line.specs.Line.{four, fields_in, fields}
 use Rattle.call_line.proofs.Reading.{digit_bounds}
-use Rattle.call_line.proofs.Columns.{within}
+use Rattle.call_line.proofs.Columns.{Four, within}
 
 spaces_move : (i : ℕ) (s : List ℕ) → ascii_space ∷ (replicate i ascii_space ++ s) ≡ replicate i ascii_space ++ (ascii_space ∷ s)
 spaces_move zero s = refl

@@ -1,48 +1,25 @@
--- What the table of kinds says of a range of numbers, and of the rest. Assumes nothing.
-use Prim.Native.Nat.{ℕ, zero, suc, ◌≤◌, ◌<◌}
+-- What the table of kinds says of the numbers that are no kind, and what a check and a call are together. Assumes nothing.
+use Prim.Native.Nat.{ℕ, zero, suc, ◌≤◌}
 use mathlib.Core.Path.{◌≡◌, refl}
 use native.Mathlib.Omega.{arith}
-use Rattle.std.proofs.Common.{Err}
+use lib.ListN.{get_or-eq_default}
+use Rattle.std.proofs.Common.{Result, Ok, Err}
+use Rattle.std.specs.Result.{result_and}
+use Rattle.refusal.specs.Outcome.{and_then}
+use Rattle.refusal.specs.declared.Refusal.{Refusal}
 use Rattle.refusal.specs.declared.Refusal.TheVariants.{NotInShape}
-use Rattle.call_line.specs.Line.{none, alone, flagged, rule_of, call_of}
-
-pub rule_12 : (k : ℕ) → 1 ≤ k → k < 3 → rule_of k ≡ alone
-rule_12 zero l u = absurd (omega arith)
-rule_12 (suc zero) l u = refl
-rule_12 (suc (suc zero)) l u = refl
-rule_12 (suc (suc (suc k))) l u = absurd (omega arith)
-
-pub rule_34 : (k : ℕ) → 3 ≤ k → k < 5 → rule_of k ≡ flagged
-rule_34 zero l u = absurd (omega arith)
-rule_34 (suc zero) l u = absurd (omega arith)
-rule_34 (suc (suc zero)) l u = absurd (omega arith)
-rule_34 (suc (suc (suc zero))) l u = refl
-rule_34 (suc (suc (suc (suc zero)))) l u = refl
-rule_34 (suc (suc (suc (suc (suc k))))) l u = absurd (omega arith)
+use Rattle.call_line.specs.declared.Call.{Call}
+use Rattle.call_line.specs.Line.{none, rules, rule_of, calls, call_of}
 
 pub rule_rest : (k : ℕ) → (1 ≤ k → k ≤ 8 → ⊥) → rule_of k ≡ none
 rule_rest zero h = refl
-rule_rest (suc zero) h = absurd (h (omega arith) (omega arith))
-rule_rest (suc (suc zero)) h = absurd (h (omega arith) (omega arith))
-rule_rest (suc (suc (suc zero))) h = absurd (h (omega arith) (omega arith))
-rule_rest (suc (suc (suc (suc zero)))) h = absurd (h (omega arith) (omega arith))
-rule_rest (suc (suc (suc (suc (suc zero))))) h = absurd (h (omega arith) (omega arith))
-rule_rest (suc (suc (suc (suc (suc (suc zero)))))) h = absurd (h (omega arith) (omega arith))
-rule_rest (suc (suc (suc (suc (suc (suc (suc zero))))))) h = absurd (h (omega arith) (omega arith))
-rule_rest (suc (suc (suc (suc (suc (suc (suc (suc zero)))))))) h = absurd (h (omega arith) (omega arith))
-rule_rest (suc (suc (suc (suc (suc (suc (suc (suc (suc k))))))))) h = refl
+rule_rest (suc k) h = get_or-eq_default rules none {n = suc k} (omega arith)
 
-pub call_rest :
-    (k a b c : ℕ) → (k ≡ 1 → ⊥) → (k ≡ 2 → ⊥) → (k ≡ 3 → ⊥) → (k ≡ 4 → ⊥) → (k ≡ 5 → ⊥) → (k ≡ 6 → ⊥) → (k ≡ 7 → ⊥) → (k ≡ 8 → ⊥)
-    → call_of k a b c ≡ Err NotInShape
+pub call_rest : (k a b c : ℕ) → (1 ≤ k → k ≤ 8 → ⊥) → call_of k a b c ≡ Err NotInShape
 unfolding call_of
-call_rest zero a b c n1 n2 n3 n4 n5 n6 n7 n8 = refl
-call_rest (suc zero) a b c n1 n2 n3 n4 n5 n6 n7 n8 = absurd (n1 refl)
-call_rest (suc (suc zero)) a b c n1 n2 n3 n4 n5 n6 n7 n8 = absurd (n2 refl)
-call_rest (suc (suc (suc zero))) a b c n1 n2 n3 n4 n5 n6 n7 n8 = absurd (n3 refl)
-call_rest (suc (suc (suc (suc zero)))) a b c n1 n2 n3 n4 n5 n6 n7 n8 = absurd (n4 refl)
-call_rest (suc (suc (suc (suc (suc zero))))) a b c n1 n2 n3 n4 n5 n6 n7 n8 = absurd (n5 refl)
-call_rest (suc (suc (suc (suc (suc (suc zero)))))) a b c n1 n2 n3 n4 n5 n6 n7 n8 = absurd (n6 refl)
-call_rest (suc (suc (suc (suc (suc (suc (suc zero))))))) a b c n1 n2 n3 n4 n5 n6 n7 n8 = absurd (n7 refl)
-call_rest (suc (suc (suc (suc (suc (suc (suc (suc zero)))))))) a b c n1 n2 n3 n4 n5 n6 n7 n8 = absurd (n8 refl)
-call_rest (suc (suc (suc (suc (suc (suc (suc (suc (suc k))))))))) a b c n1 n2 n3 n4 n5 n6 n7 n8 = refl
+call_rest zero a b c h = refl
+call_rest (suc k) a b c h = get_or-eq_default (calls a b c) (Err NotInShape) {n = suc k} (omega arith)
+
+pub and_is : (check : Result (Unit {0}) Refusal) (r : Result Call Refusal) → result_and check r ≡ and_then check (λ _. r)
+and_is (Ok x) r = refl
+and_is (Err e) r = refl

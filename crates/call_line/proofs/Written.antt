@@ -235,6 +235,25 @@ text_fills call out r m =
     let d : drop line_bytes out ≡ [] = drop_of_length-le out {i = line_bytes} (omega (arith, m)) in
     rw (m, r, d) (append-nil (line_text call))
 
+-- ---- a line alone, which has room
+
+-- what the writer answers there is the reader's checks
+line_outcome : (call : Call) → write_outcome call line_bytes ≡ check call
+unfolding write_outcome
+line_outcome call = rw (call_checks call) (pick (check call))
+  where
+    pick : (r : Result (Unit {0}) Refusal) → and_then (and_then r (λ _. Ok call)) (λ _. Ok tt) ≡ r
+    pick (Ok x) = refl
+    pick (Err e) = refl
+
+pub line_refused : (call : Call) (e : Refusal) → Err e ≡ write_outcome call line_bytes → and_then (check call) (λ _. Ok (line_text call)) ≡ Err e
+line_refused call e h = rw (sym (h ∙ line_outcome call)) refl
+
+pub line_whole :
+    (call : Call) (out : List ℕ) → Ok tt ≡ write_outcome call line_bytes → length out ≡ line_bytes
+    → Ok (written call out) ≡ and_then {E = Refusal} (check call) (λ _. Ok (line_text call))
+line_whole call out h m = rw (text_fills call out (sym h) m, sym (h ∙ line_outcome call)) refl
+
 -- ---- the columns, one after another
 
 -- a part that was lent and written as a column
@@ -259,15 +278,15 @@ module _ (out₀ ns out : List ℕ) (l : length wide ≡ length ns) (r : line_by
 
   -- one column more
   pub column_more :
-      (k from : ℕ) (ys : List ℕ) → k < 4 → from ≡ start wide k → length out ≡ length out₀
-      → ys ≡ column (length (mid_of from (from + get_or wide k 0 - from) out)) (get_or ns k 0) → FirstColumns out₀ ns out k
-      → FirstColumns out₀ ns (put_mid from (from + get_or wide k 0 - from) out ys) (k + 1)
-  column_more k from ys h f e q c =
+      (k from w n : ℕ) (ys : List ℕ) → k < 4 → w ≡ get_or wide k 0 → n ≡ get_or ns k 0 → from ≡ start wide k → length out ≡ length out₀
+      → ys ≡ column (length (mid_of from (from + w - from) out)) n → FirstColumns out₀ ns out k
+      → FirstColumns out₀ ns (put_mid from (from + w - from) out ys) (k + 1)
+  column_more k from w n ys h v m f e q c =
       let p = row (take k wide) (take k ns) in
-      let w : from + get_or wide k 0 - from ≡ get_or wide k 0 = omega arith in
+      let z : from + w - from ≡ w = omega arith in
       let b = within wide k h in
-      column_laid from (from + get_or wide k 0) (get_or ns k 0) out ys (omega arith) (omega arith) q
-      ∙ rw (w, c, add-one, row_more wide ns l k h)
+      column_laid from (from + w) n out ys (omega arith) (omega arith) q
+      ∙ rw (z, c, v, m, add-one, row_more wide ns l k h)
       (rw (zero-add from) at
       (laid_twice 0 from p out₀ (length_row_first wide ns l k (omega arith) ∙ sym f) (omega arith) (column (get_or wide k 0) (get_or ns k 0))))
 

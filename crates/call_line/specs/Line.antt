@@ -1,11 +1,11 @@
 -- A line of a call list: its columns, the table of kinds, the refusals in their order. Definitions only.
-use Rattle.std.specs.Prelude.{ℕ, ◌<◌, ◌≡◌, Bool, true, false, ◌&&◌, ◌||◌, not, if◌then◌else◌, Option, Some, None, Result, Ok, Err, List, [], ◌∷◌, eqb, length, get_or}
+use Rattle.std.specs.Prelude.{ℕ, Bool, true, false, ◌&&◌, ◌||◌, not, if◌then◌else◌, Option, Some, None, Result, Ok, Err, List, [], ◌∷◌, eqb, length, get_or}
 use Rattle.refusal.specs.Refusal.{code}
 use Rattle.refusal.specs.Outcome.{and_then}
 use Rattle.refusal.specs.declared.Refusal.{Refusal}
 use Rattle.refusal.specs.declared.Refusal.TheVariants.{NotInShape, Flag}
-use Rattle.packets.specs.Summary.{check_packet}
-use Rattle.loss_controller.specs.Setters.{rate_of, check_rate, check_time}
+use Rattle.packets.specs.Summary.{check_time, check_packet}
+use Rattle.loss_controller.specs.Setters.{rate_of, check_rate}
 use Rattle.call_line.specs.declared.Fields.{Fields}
 use Rattle.call_line.specs.declared.Call.{Call}
 use Rattle.call_line.specs.declared.Call.TheVariants.{Estimate, Acknowledged, AlrOn, AlrOff, CapacityIs, CapacityNone, Packet, Report, Read, StartBytes, StartPackets}
@@ -53,8 +53,11 @@ pub data Rule : Type 0 where
   flag_alone : Rule
 
 -- the rules of the kinds 0 to 8: "kind outside 1 to 8" is refused
+abbrev pub rules : List Rule
+rules = none ∷ alone ∷ alone ∷ flagged ∷ flagged ∷ packet ∷ alone ∷ bare ∷ flag_alone ∷ []
+
 abbrev pub rule_of : ℕ → Rule
-rule_of kind = get_or (none ∷ alone ∷ alone ∷ flagged ∷ flagged ∷ packet ∷ alone ∷ bare ∷ flag_alone ∷ []) kind none
+rule_of kind = get_or rules kind none
 
 abbrev pub zeros : ℕ → ℕ → Bool
 zeros one other = eqb one 0 && eqb other 0
@@ -106,10 +109,9 @@ unfoldable pub start_of : ℕ → Result Call Refusal
 start_of b = by_flag b (Ok StartBytes) (Ok StartPackets)
 
 -- the kinds 0 to 8
-unfoldable pub call_of : ℕ → ℕ → ℕ → ℕ → Result Call Refusal
-call_of kind a b c =
-    get_or
-    (Err NotInShape
+abbrev pub calls : ℕ → ℕ → ℕ → List (Result Call Refusal)
+calls a b c =
+    Err NotInShape
     ∷ unless_refused (check_bits a) (Estimate a)
     ∷ unless_refused (check_bits a) (Acknowledged a)
     ∷ alr_of a b
@@ -118,9 +120,10 @@ call_of kind a b c =
     ∷ unless_refused (check_bits a) (Report a)
     ∷ Ok Read
     ∷ start_of b
-    ∷ [])
-    kind
-    (Err NotInShape)
+    ∷ []
+
+unfoldable pub call_of : ℕ → ℕ → ℕ → ℕ → Result Call Refusal
+call_of kind a b c = get_or (calls a b c) kind (Err NotInShape)
 
 -- the table, call by call: kind, A, B and C
 unfoldable pub values_of : Call → List ℕ
@@ -159,10 +162,3 @@ said None = Err (Other NotInShape)
 -- what a line says, its newline left out
 unfoldable pub line_of : List ℕ → Result Call LineRefusal
 line_of s = said (fields_of s)
-
--- ---- for a private function alone: what it asks of widths
-
--- four columns, none of them without places
-pub record Four (ws : List ℕ) : Type 0 where
-  pub long : length ws ≡ 4
-  pub places : (k : ℕ) → k < 4 → 0 < get_or ws k 0

@@ -2,15 +2,16 @@
 // a column.
 #![tactic(auto)]
 
-ghost use Rattle.std.specs.Prelude.{◌≡◌, ◌*◌, ◌/◌, ◌%◌, ◌≤◌, ◌<◌, length};
-ghost use Rattle.call_line.specs.Column.{is_digit, digits_of, column, total};
+ghost use Rattle.std.specs.Prelude.{◌≡◌, ◌≢◌, ℕ, ◌*◌, ◌/◌, ◌%◌, ◌≤◌, ◌<◌, Ok, length, slice_index};
+ghost use Rattle.refusal.specs.Outcome.{and_then};
+ghost use Rattle.call_line.specs.Column.{ascii_zero, is_digit, more, digits_of, column_of, column, total};
 ghost use Rattle.call_line.specs.Digits.{last_digits};
-ghost use Rattle.call_line.specs.Line.{Four, zeros, flagged, allowed, fields_in, fields_of, in_table, check_bits, alr_of, capacity_of, packet_of};
-ghost use Rattle.call_line.specs.Line.{start_of, call_of, values_of, fields, checked, refused, line_of};
-ghost use Rattle.call_line.specs.Write.{write_outcome, written, ReadBack};
+ghost use Rattle.call_line.specs.Line.{fields_in, fields_of, by_flag, in_table, check_bits, packet_of};
+ghost use Rattle.call_line.specs.Line.{call_of, values_of, fields, checked, refused, line_of};
+ghost use Rattle.call_line.specs.Write.{line_text, check, write_outcome, written, ReadBack};
 
 use bandwidth::Bitrate;
-use packets::PacketSize;
+use packets::{PacketResult, PacketSize};
 use refusal::Refusal;
 
 // A line's columns: kind, A, B and C.
@@ -77,68 +78,69 @@ pub enum LineRefusal {
 pub fn is_digit(byte: u8) -> bool
     ensures { result ≡ is_digit byte }
 {
-    byte >= b'0' && byte <= b'9'
+    byte.is_ascii_digit()
+}
+
+// The number in digits that may begin with zeros. None with a byte that is no digit, and above 2^64 - 1.
+#[tactic(auto, using(crate::proofs::Reading::digit_bounds, crate::proofs::Reading::stop_ahead, crate::proofs::Reading::more_end, crate::proofs::Reading::more_stop, crate::proofs::Reading::more_over, crate::proofs::Reading::more_on))]
+pub fn digits_value(digits: &[u8]) -> Option<u64>
+    ensures { result ≡ more 0 digits.now }
+{
+    // Nineteen digits fit a u64.
+    let (first, rest) = digits.split_at(digits.len().min(MOST_DIGITS - 1));
+    let mut value: u64 = 0;
+    for byte in first {
+        if !is_digit(*byte) {
+            return None;
+        }
+        value = value * 10 + u64::from(*byte - b'0');
+    }
+    for byte in rest {
+        if !is_digit(*byte) {
+            return None;
+        }
+        value = value.checked_mul(10)?.checked_add(u64::from(*byte - b'0'))?;
+    }
+    Some(value)
 }
 
 // The number in a column's digits. None without digits, with a zero before others, with a byte that
 // is no digit, and above 2^64 - 1.
-#[tactic(auto, using(crate::proofs::Reading::no_digits, crate::proofs::Reading::leading_zero, crate::proofs::Reading::too_many, crate::proofs::Reading::no_digit, crate::proofs::Reading::digit_bounds, crate::proofs::Reading::one_digit, crate::proofs::Reading::no_leading_zero))]
+#[tactic(auto, using(crate::proofs::Reading::no_digits, crate::proofs::Reading::leading_zero, crate::proofs::Reading::one_digit, crate::proofs::Reading::no_leading_zero))]
 pub fn read_number(digits: &[u8]) -> Option<u64>
     ensures { result ≡ digits_of digits.now }
 {
-    if digits.len() == 0 {
-        return None;
+    match digits {
+        [] | [b'0', _, ..] => None,
+        _ => digits_value(digits),
     }
-    if digits.len() > 1 {
-        if digits[0] == b'0' {
-            return None;
-        }
-    }
-    if digits.len() > MOST_DIGITS {
-        return None;
-    }
-    let last = digits.len() - 1;
-    let mut tens: u64 = 0;
-    let mut i = 0;
-    // The digits before the last are at most 19, so that they do not pass a u64.
-    while i < last {
-        let byte = digits[i];
-        i += 1;
-        if !is_digit(byte) {
-            return None;
-        }
-        tens = tens * 10 + (byte - b'0') as u64;
-    }
-    if !is_digit(digits[last]) {
-        return None;
-    }
-    let digit = (digits[last] - b'0') as u64;
-    if tens > (u64::MAX - digit) / 10 {
-        return None;
-    }
-    Some(tens * 10 + digit)
+}
+
+// What a column says: spaces, and then digits to its end.
+#[tactic(auto, using(crate::proofs::Columns::blank))]
+fn read_column(column: &[u8]) -> Option<u64>
+    ensures { result ≡ column_of column.now }
+{
+    let spaces = column.iter().position(|byte| *byte != b' ')?;
+    read_number(&column[spaces..])
 }
 
 // The first wrong column ends the reading.
+#[tactic(auto, using(crate::proofs::Columns::columns_cut), unfolding(crate::specs::Line::four))]
 fn read_columns(line: &[u8], widths: [usize; COLUMNS]) -> Option<Fields>
-    requires { Four widths × (length line.now ≡ total widths) }
+    requires { length line.now ≡ total widths }
     ensures { result ≡ fields_in widths line.now }
 {
-    let mut values = [0u64; COLUMNS];
-    let mut from = 0;
-    for k in 0..COLUMNS {
-        let to = from + widths[k];
-        // Spaces up to the number; a blank column is wrong.
-        while line[from] == b' ' {
-            from += 1;
-            if from == to {
-                return None;
-            }
-        }
-        values[k] = read_number(&line[from..to])?;
-        from = to;
-    }
-    Some(Fields::from(values))
+    let [kind, a, b, _] = widths;
+    let (kind, line) = line.split_at(kind);
+    let (a, line) = line.split_at(a);
+    let (b, c) = line.split_at(b);
+    Some(Fields {
+        kind: read_column(kind)?,
+        a: read_column(a)?,
+        b: read_column(b)?,
+        c: read_column(c)?,
+    })
 }
 
 // A line's length tells its columns.
@@ -153,127 +155,86 @@ fn read_fields(line: &[u8]) -> Option<Fields>
     }
 }
 
-fn both_zero(one: u64, other: u64) -> bool
-    ensures { result ≡ zeros one other }
-{
-    one == 0 && other == 0
-}
-
-// C is 0, and A is 0 where the flag B is.
-fn a_with_flag(a: u64, b: u64, c: u64) -> bool
-    ensures { result ≡ allowed flagged a b c }
-{
-    c == 0 && (b != 0 || a == 0)
-}
-
 fn check_bits(bits: u64) -> Result<(), Refusal>
     ensures { result ≡ check_bits bits }
 {
-    loss_controller::check_rate(Bitrate {
-        bps: float::from_bits(bits),
-    })
+    loss_controller::check_rate(Bitrate::from_bits(bits))
 }
 
-#[tactic(auto, unfolding(crate::specs::Line::alr_of, crate::specs::Line::by_flag, crate::specs::Line::unless_refused))]
-fn alr(a: u64, b: u64) -> Result<Call, Refusal>
-    ensures { result ≡ alr_of a b }
+// What a flag picks; one that is neither 0 nor 1 is refused.
+#[tactic(auto, unfolding(crate::specs::Line::by_flag))]
+fn by_flag(
+    flag: u64,
+    off: Result<Call, Refusal>,
+    on: Result<Call, Refusal>,
+) -> Result<Call, Refusal>
+    ensures { result ≡ by_flag flag off on }
 {
-    match b {
-        0 => Ok(Call::AlrOff),
-        1 => {
-            loss_controller::check_time(a)?;
-            Ok(Call::AlrOn(a))
-        }
-        _ => Err(Refusal::Flag),
-    }
-}
-
-#[tactic(auto, unfolding(crate::specs::Line::capacity_of, crate::specs::Line::by_flag, crate::specs::Line::unless_refused))]
-fn capacity(a: u64, b: u64) -> Result<Call, Refusal>
-    ensures { result ≡ capacity_of a b }
-{
-    match b {
-        0 => Ok(Call::CapacityNone),
-        1 => {
-            check_bits(a)?;
-            Ok(Call::CapacityIs(a))
-        }
-        _ => Err(Refusal::Flag),
-    }
-}
-
-// The checks are a report's of each packet.
-#[tactic(auto, unfolding(crate::specs::Line::packet_of, crate::specs::Line::unless_refused, packets::specs::Summary::check_packet))]
-fn packet(a: u64, b: u64, c: u64) -> Result<Call, Refusal>
-    ensures { result ≡ packet_of a b c }
-{
-    if a > packets::LATEST_TIME {
-        return Err(Refusal::Time);
-    }
-    if c > packets::LARGEST_PACKET {
-        return Err(Refusal::PacketSize);
-    }
-    if b > 1 {
-        return Err(Refusal::Flag);
-    }
-    Ok(Call::Packet {
-        time: a,
-        lost: b as u8,
-        size: c as PacketSize,
-    })
-}
-
-#[tactic(auto, unfolding(crate::specs::Line::start_of, crate::specs::Line::by_flag))]
-fn start(b: u64) -> Result<Call, Refusal>
-    ensures { result ≡ start_of b }
-{
-    match b {
-        0 => Ok(Call::StartBytes),
-        1 => Ok(Call::StartPackets),
+    match flag {
+        0 => off,
+        1 => on,
         _ => Err(Refusal::Flag),
     }
 }
 
 impl Fields {
     // Whether the table of kinds allows them.
-    #[tactic(auto, using(crate::proofs::Table::rule_12, crate::proofs::Table::rule_34, crate::proofs::Table::rule_rest), unfolding(crate::specs::Line::in_table))]
+    #[tactic(auto, using(crate::proofs::Table::rule_rest), unfolding(crate::specs::Line::in_table))]
     fn in_table(self) -> bool
         ensures { result ≡ in_table self.kind self.a self.b self.c }
     {
-        match self.kind {
-            1..=2 | 6 => both_zero(self.b, self.c),
-            3..=4 => a_with_flag(self.a, self.b, self.c),
+        let Fields { kind, a, b, c } = self;
+        match kind {
+            1 | 2 | 6 => b == 0 && c == 0,
+            // A is 0 where the flag B is.
+            3 | 4 => c == 0 && (b != 0 || a == 0),
             5 => true,
-            7 => self.a == 0 && both_zero(self.b, self.c),
-            8 => both_zero(self.a, self.c),
+            7 => a == 0 && b == 0 && c == 0,
+            8 => a == 0 && c == 0,
             _ => false,
         }
     }
 
+    // The checks are a report's of each packet.
+    #[tactic(auto, unfolding(crate::specs::Line::packet_of, crate::specs::Line::unless_refused, packets::specs::Summary::check_packet))]
+    fn packet(self) -> Result<Call, Refusal>
+        ensures { result ≡ packet_of self.a self.b self.c }
+    {
+        // what the narrower widths don't hold is refused as their largest
+        let packet = PacketResult {
+            local_send_time: self.a,
+            size: PacketSize::try_from(self.c).unwrap_or(PacketSize::MAX),
+            lost: u8::try_from(self.b).unwrap_or(u8::MAX),
+        };
+        packet.check()?;
+        Ok(Call::Packet {
+            time: packet.local_send_time,
+            lost: packet.lost,
+            size: packet.size,
+        })
+    }
+
     // The call, where the table allows them.
-    #[tactic(auto, using(crate::proofs::Table::call_rest), unfolding(crate::specs::Line::call_of, crate::specs::Line::unless_refused))]
+    #[tactic(auto, using(crate::proofs::Table::call_rest, crate::proofs::Table::and_is), unfolding(crate::specs::Line::call_of, crate::specs::Line::unless_refused, crate::specs::Line::alr_of, crate::specs::Line::capacity_of, crate::specs::Line::start_of))]
     fn call(self) -> Result<Call, Refusal>
         ensures { result ≡ call_of self.kind self.a self.b self.c }
     {
-        let Fields { kind, a, b, c } = self;
+        let Fields { kind, a, b, .. } = self;
         match kind {
-            1 => {
-                check_bits(a)?;
-                Ok(Call::Estimate(a))
+            1 => check_bits(a).and(Ok(Call::Estimate(a))),
+            2 => check_bits(a).and(Ok(Call::Acknowledged(a))),
+            3 => {
+                let on = packets::check_time(a).and(Ok(Call::AlrOn(a)));
+                by_flag(b, Ok(Call::AlrOff), on)
             }
-            2 => {
-                check_bits(a)?;
-                Ok(Call::Acknowledged(a))
+            4 => {
+                let on = check_bits(a).and(Ok(Call::CapacityIs(a)));
+                by_flag(b, Ok(Call::CapacityNone), on)
             }
-            3 => alr(a, b),
-            4 => capacity(a, b),
-            5 => packet(a, b, c),
-            6 => {
-                check_bits(a)?;
-                Ok(Call::Report(a))
-            }
+            5 => self.packet(),
+            6 => check_bits(a).and(Ok(Call::Report(a))),
             7 => Ok(Call::Read),
-            8 => start(b),
+            8 => by_flag(b, Ok(Call::StartBytes), Ok(Call::StartPackets)),
             _ => Err(Refusal::NotInShape),
         }
     }
@@ -287,16 +248,16 @@ impl Fields {
         }
         self.call()
     }
-}
 
-#[tactic(auto, unfolding(crate::specs::Line::refused))]
-fn refused(kind: u64, refusal: Refusal) -> LineRefusal
-    ensures { result ≡ refused kind refusal }
-{
-    if kind == 6 && refusal != Refusal::NotInShape {
-        return LineRefusal::Report(refusal);
+    #[tactic(auto, unfolding(crate::specs::Line::refused))]
+    fn refused(self, refusal: Refusal) -> LineRefusal
+        ensures { result ≡ refused self.kind refusal }
+    {
+        if self.kind == 6 && refusal != Refusal::NotInShape {
+            return LineRefusal::Report(refusal);
+        }
+        LineRefusal::Other(refusal)
     }
-    LineRefusal::Other(refusal)
 }
 
 // What a line says, its newline left out.
@@ -304,37 +265,32 @@ fn refused(kind: u64, refusal: Refusal) -> LineRefusal
 pub fn read_line(line: &[u8]) -> Result<Call, LineRefusal>
     ensures { result ≡ line_of line.now }
 {
-    let Some(fields) = read_fields(line) else {
-        return Err(LineRefusal::Other(Refusal::NotInShape));
-    };
-    match fields.checked() {
-        Ok(call) => Ok(call),
-        Err(refusal) => Err(refused(fields.kind, refusal)),
-    }
+    let fields = read_fields(line).ok_or(LineRefusal::Other(Refusal::NotInShape))?;
+    fields.checked().map_err(|refusal| fields.refused(refusal))
 }
 
-// The powers of ten that a u64 holds
+// The powers of ten that a u64 holds, the largest first
 const POWERS: [u64; MOST_DIGITS] = [
-    1,
-    10,
-    100,
-    1_000,
-    10_000,
-    100_000,
-    1_000_000,
-    10_000_000,
-    100_000_000,
-    1_000_000_000,
-    10_000_000_000,
-    100_000_000_000,
-    1_000_000_000_000,
-    10_000_000_000_000,
-    100_000_000_000_000,
-    1_000_000_000_000_000,
-    10_000_000_000_000_000,
-    100_000_000_000_000_000,
-    1_000_000_000_000_000_000,
     10_000_000_000_000_000_000,
+    1_000_000_000_000_000_000,
+    100_000_000_000_000_000,
+    10_000_000_000_000_000,
+    1_000_000_000_000_000,
+    100_000_000_000_000,
+    10_000_000_000_000,
+    1_000_000_000_000,
+    100_000_000_000,
+    10_000_000_000,
+    1_000_000_000,
+    100_000_000,
+    10_000_000,
+    1_000_000,
+    100_000,
+    10_000,
+    1_000,
+    100,
+    10,
+    1,
 ];
 
 // How often a power was subtracted, and what is left.
@@ -357,41 +313,45 @@ fn digit(rest: u64, power: u64) -> Subtracted
     Subtracted { value, rest }
 }
 
-// The last twenty digits of n, from the last on; it has no more. All twenty whatever the column: the
-// loop then has a fixed length and each power is a constant to the compiler, which makes one
-// multiplication of the subtractions of each.
+// The last twenty digits of n, which has no more. All twenty whatever the column: the loop then has a
+// fixed length and each power is a constant to the compiler, which makes one multiplication of the
+// subtractions of each.
 fn digits(n: u64) -> [u8; MOST_DIGITS]
     ensures { result ≡ last_digits 20 n }
 {
     // A copy, since the array of a constant is built anew wherever it is named.
     let powers = POWERS;
-    let mut digits = [0u8; MOST_DIGITS];
+    let mut digits = [b'0'; MOST_DIGITS];
     let mut rest = n;
-    let mut k = MOST_DIGITS;
-    while k > 0 {
-        k -= 1;
+    for k in 0..MOST_DIGITS {
         let taken = digit(rest, powers[k]);
         rest = taken.rest;
-        digits[k] = taken.value;
+        digits[k] = b'0' + taken.value;
     }
     digits
 }
 
+fn leading_zeros(digits: &[u8]) -> usize
+    ensures within { result ≤ length digits.now }
+    ensures zeros { (k : ℕ) → k < result → slice_index digits.now k ≡ ascii_zero }
+    ensures digit { result < length digits.now → slice_index digits.now result ≢ ascii_zero }
+{
+    digits
+        .iter()
+        .position(|digit| *digit != b'0')
+        .unwrap_or(digits.len())
+}
+
 // Fills the column with n, which is below ten.
+#[tactic(auto, using(crate::proofs::Writing::digit_column, crate::proofs::Writing::no_column))]
 fn write_digit(out: &mut [u8], n: u64)
     requires { n < 10 }
     ensures { out.new ≡ column (length out.old) n }
 {
-    if out.len() == 0 {
-        return;
+    if let Some((last, spaces)) = out.split_last_mut() {
+        spaces.fill(b' ');
+        *last = b'0' + n as u8;
     }
-    let last = out.len() - 1;
-    let mut i = 0;
-    while i < last {
-        out[i] = b' ';
-        i += 1;
-    }
-    out[last] = b'0' + n as u8;
 }
 
 // Fills the column with n, right-justified with spaces. Of a number with more digits than the column
@@ -406,37 +366,31 @@ pub fn write_number(out: &mut [u8], n: u64)
     }
     let digits = digits(n);
     // A digit that finds no room counts too: 105 in two places is 05.
-    let mut count = MOST_DIGITS;
-    while digits[count - 1] == 0 {
-        count -= 1;
-    }
-    let mut i = 0;
-    while i + count < out.len() {
-        out[i] = b' ';
-        i += 1;
-    }
-    while i < out.len() {
-        out[i] = b'0' + digits[out.len() - 1 - i];
-        i += 1;
-    }
+    let count = MOST_DIGITS - leading_zeros(&digits);
+    let (spaces, places) = out.split_at_mut(out.len().saturating_sub(count));
+    spaces.fill(b' ');
+    places.copy_from_slice(&digits[MOST_DIGITS - places.len()..]);
 }
 
 // The fields of a call's line: kind, A, B and C.
-fn values(call: Call) -> [u64; COLUMNS]
-    ensures { result ≡ values_of call }
-{
-    match call {
-        Call::Estimate(bandwidth) => [1, bandwidth, 0, 0],
-        Call::Acknowledged(bitrate) => [2, bitrate, 0, 0],
-        Call::AlrOn(start) => [3, start, 1, 0],
-        Call::AlrOff => [3, 0, 0, 0],
-        Call::CapacityIs(bandwidth) => [4, bandwidth, 1, 0],
-        Call::CapacityNone => [4, 0, 0, 0],
-        Call::Packet { time, lost, size } => [5, time, lost as u64, size as u64],
-        Call::Report(delay) => [6, delay, 0, 0],
-        Call::Read => [7, 0, 0, 0],
-        Call::StartBytes => [8, 0, 0, 0],
-        Call::StartPackets => [8, 0, 1, 0],
+impl From<Call> for [u64; COLUMNS] {
+    ghost from_gives = { λ call all. all ≡ values_of call };
+
+    #[tactic(auto, unfolding(crate::specs::Line::values_of))]
+    fn from(call: Call) -> [u64; COLUMNS] {
+        match call {
+            Call::Estimate(bandwidth) => [1, bandwidth, 0, 0],
+            Call::Acknowledged(bitrate) => [2, bitrate, 0, 0],
+            Call::AlrOn(start) => [3, start, 1, 0],
+            Call::AlrOff => [3, 0, 0, 0],
+            Call::CapacityIs(bandwidth) => [4, bandwidth, 1, 0],
+            Call::CapacityNone => [4, 0, 0, 0],
+            Call::Packet { time, lost, size } => [5, time, lost as u64, size as u64],
+            Call::Report(delay) => [6, delay, 0, 0],
+            Call::Read => [7, 0, 0, 0],
+            Call::StartBytes => [8, 0, 0, 0],
+            Call::StartPackets => [8, 0, 1, 0],
+        }
     }
 }
 
@@ -446,17 +400,26 @@ pub fn write_line(call: Call, out: &mut [u8]) -> Result<(), Refusal>
     ensures value { (result ≡ write_outcome call (length out.old)) × (out.new ≡ written call out.old) }
     ensures read_back { ReadBack call result out.new }
 {
-    let values = values(call);
+    let values = <[u64; COLUMNS]>::from(call);
     Fields::from(values).checked()?;
     if out.len() <= LINE_WIDTH {
         return Err(Refusal::NoRoom);
     }
     let mut from = 0;
-    for k in 0..COLUMNS {
-        let to = from + WIDE[k];
-        write_number(&mut out[from..to], values[k]);
+    for (width, value) in WIDE.iter().zip(&values) {
+        let to = from + *width;
+        write_number(&mut out[from..to], *value);
         from = to;
     }
     out[from] = b'\n';
     Ok(())
+}
+
+// The call's line, with its newline. Refused by the reader's checks alone: there is room.
+pub fn line(call: Call) -> Result<[u8; LINE_WIDTH + 1], Refusal>
+    ensures { result ≡ and_then (check call) (λ _. Ok (line_text call)) }
+{
+    let mut text = [0; LINE_WIDTH + 1];
+    write_line(call, &mut text)?;
+    Ok(text)
 }

@@ -1,8 +1,10 @@
 -- An answer's columns laid one after another, and how long they are. Assumes nothing.
-use Prim.Native.Nat.{ℕ}
+use Prim.Native.Nat.{ℕ, ◌-◌, ◌≤◌}
 use mathlib.Core.Path.{◌≡◌, refl, ◌∙◌}
-use mathlib.Core.List.{List, [], ◌∷◌, ◌++◌, append_assoc}
-use lib.ListN.{length, drop, length-append}
+use mathlib.Core.List.{List, [], ◌∷◌, ◌++◌, append_assoc, append-nil}
+use native.Mathlib.Omega.{arith}
+use lib.ListN.{length, take, drop, length-append, drop_of_length-le}
+use lib.Seq.{take_at, drop_at}
 use Rattle.buffer.specs.Laid.{laid}
 use Rattle.buffer.proofs.Laying.{laid_next, length_next}
 use Rattle.call_line.specs.Column.{column}
@@ -35,3 +37,9 @@ length_text r = simp (length-append, length_column)
 pub length_row : (outcome : Result (Unit {0}) Refusal) (r : Reading) → length (row_of outcome r) ≡ row_width
 unfolding row_of
 length_row outcome r = simp (length-append, length_column, length_text)
+
+-- a column of two bytes, and what stands behind it in place of the rest
+pub behind_column : (o col t : List ℕ) → length col ≡ 2 → take 2 (col ++ o) ++ (t ++ drop (length (col ++ o) - 2) (drop 2 (col ++ o))) ≡ col ++ t
+behind_column o col t l =
+    let k : length o ≤ length (col ++ o) - 2 = omega (arith, length-append col o, l) in
+    rw (take_at col o 2 l, drop_at col o 2 l, drop_of_length-le o k, append-nil)

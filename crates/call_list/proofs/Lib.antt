@@ -1,7 +1,6 @@
 pub mod Laying
 pub mod KeptLines
 pub mod Lines
-pub mod Turning
 pub mod Feeding
 pub mod Streaming
 pub mod Made

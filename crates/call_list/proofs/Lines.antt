@@ -1,98 +1,108 @@
--- The next line of a chunk. Assumes nothing.
-use Prim.Native.Nat.{ℕ, zero, suc, ◌+◌, ◌≤◌, ◌<◌}
-use mathlib.Core.Path.{◌≡◌, refl, sym, ap, ◌∙◌}
-use mathlib.Core.Bool.{Bool, true, false, cond}
-use mathlib.Core.List.{List, [], ◌∷◌, ◌++◌, append_assoc, append-nil}
-use native.Mathlib.Numerals.{add-one}
-use native.Mathlib.Omega.{arith}
-use borrow.Author.Tests.{lt-ltb, le-ltb, eq-eqb, ne_eqb, eqb-true, ltb-true}
+-- A run over the next line of a chunk. Assumes nothing.
+use Rattle.std.proofs.Common.{◌≡◌, ℕ, ◌+◌, ◌≤◌, ◌<◌, Bool, true, false, cond, List, [], Option, Some, None, is_some, unwrap_or, Result, Ok, Err, length, take, drop, get_or, refl, sym, ap, ◌∙◌, arith, length-take, get_or-take}
+use mathlib.Core.Bool.{true≢false}
+use borrow.Author.Tests.{eq-eqb, ne_eqb, eqb-true, ltb-true}
 use lib.Dec.{eqb, ltb, lit≤}
-use lib.ListN.{length, get_or, take, drop, set, length-set, length-take, drop_of_length-le, take-append-drop}
-use lib.Seq.{drop-cons, take-suc-set}
-use Rattle.float.proofs.Both.{both}
+use lib.Seq.{take_all}
+use Rattle.std.proofs.lemmas.List.Sums.{position_or_len_is}
+use Rattle.std.proofs.lemmas.Bool.{and_parts}
 use Rattle.call_line.specs.Column.{total}
 use Rattle.call_line.specs.Line.{wide, narrow, line_of}
-use Rattle.call_line.proofs.Clear.{Clear, taken_clear}
+use Rattle.call_line.proofs.Clear.{taken_clear}
 use Rattle.call_line.specs.declared.Call.{Call}
-use Rattle.std.proofs.Common.{Ok}
-use Rattle.call_list.specs.Feed.{Run, kept, pushed, told, step, runs}
-use Rattle.call_list.specs.Pieces.{next_of, newline_behind, standing}
+use Rattle.call_line.specs.declared.LineRefusal.{LineRefusal}
+use Rattle.call_list.specs.Feed.{Run, kept, kept_of, pushed, told, ended, step, runs}
+use Rattle.call_list.specs.Pieces.{is_newline, line_end, kept_on, newline_behind, standing, said, call_there, whole_call}
+use Rattle.call_list.proofs.KeptLines.{newline_at, ByByte, ended_there, unended, line_ended}
 
--- ---- a byte at the place i of the chunk
+-- ---- what comes of the next bytes: the run r with another line so far, and where a line has ended
+module _ (r : Run) where
+  abbrev pub run_of : List ℕ → List ℕ → Run
+  run_of line s = runs (record r { line = line }) s
 
-module _ (line : List ℕ) (len : ℕ) (s : List ℕ) (i : ℕ) (h : i < length s) where
-  here : drop i s ≡ get_or s i 0 ∷ drop (i + 1) s
-  here = drop-cons s i 0 h ∙ ap (λ (n : ℕ). get_or s i 0 ∷ drop n s) (sym (add-one i))
+  abbrev pub run_after : List ℕ → List ℕ → Run
+  run_after l s = runs (told r (line_of l)) s
 
-  pub at_newline : get_or s i 0 ≡ 10 → next_of line len i (drop i s) ≡ record { line = line; len = len; read = i + 1; ended = true }
-  unfolding next_of
-  at_newline e = rw here (simp (eq-eqb _ _ e))
+  run_by_byte : ByByte run_of run_after
+  unfolding runs step
+  run_by_byte line b s h = pick (eqb b 10)
+    where
+      pick :
+          (t : Bool)
+          → (let q : Run = record r { line = line } in
+          runs (cond t (ended q) (record q { line = pushed line b })) s
+          ≡ cond t (run_after line s) (run_of (pushed line b) s))
+      pick true = refl
+      pick false = refl
 
-  pub at_byte : (get_or s i 0 ≡ 10 → ⊥) → len < kept → next_of line len i (drop i s) ≡ next_of (set line len (get_or s i 0)) (len + 1) (i + 1) (drop (i + 1) s)
-  unfolding next_of
-  at_byte n l = rw here (simp (ne_eqb _ _ n, lt-ltb _ _ l))
+  module _ (s : List ℕ) (h : length r.line ≤ kept) where
+    pub no_line : line_end s ≡ None → runs r s ≡ record r { line = kept_on r.line s }
+    unfolding runs
+    no_line e = unended run_of run_after run_by_byte s r.line h e
 
-  pub at_full : (get_or s i 0 ≡ 10 → ⊥) → kept ≤ len → next_of line len i (drop i s) ≡ next_of line len (i + 1) (drop (i + 1) s)
-  unfolding next_of
-  at_full n l = rw here (simp (ne_eqb _ _ n, le-ltb _ _ l))
+    pub one_line : (n : ℕ) → line_end s ≡ Some n → runs r s ≡ runs (told r (line_of (kept_on r.line s))) (drop n s)
+    one_line n e = line_ended run_of run_after run_by_byte s r.line h n e
 
-pub at_end : (line : List ℕ) (len : ℕ) (s : List ℕ) (i : ℕ) → length s ≤ i
-    → next_of line len i (drop i s) ≡ record { line = line; len = len; read = i; ended = false }
-unfolding next_of
-at_end line len s i h = rw (drop_of_length-le s h)
+-- ---- a line of w bytes that stands there whole
 
--- ---- a whole line
-
-run_on : (r : Run) (b : ℕ) (s : List ℕ) → eqb b 10 ≡ false → runs r (b ∷ s) ≡ runs (pushed r b) s
-unfolding runs step
-run_on r b s e = rw e
-
--- bytes with no newline among them, and then one
-run_all :
-    (a t : List ℕ) (r : Run) → Clear a → r.len + length a ≤ kept → length r.line ≡ kept
-    → runs r (a ++ (10 ∷ t)) ≡ runs (told r (line_of (take r.len r.line ++ a))) t
-unfolding runs step
-run_all [] t r c l p = rw append-nil
-run_all (b ∷ a) t r c l p =
-    let n : b ≡ 10 → ⊥ = λ e. c zero (omega arith) e in
-    let h : r.len < kept = omega arith in
-    let x : take (r.len + 1) (set r.line r.len b) ++ a ≡ take r.len r.line ++ (b ∷ a) =
-    rw (add-one, take-suc-set r.line r.len b (omega arith)) (append_assoc (take r.len r.line) (b ∷ []) a) in
-    let q : Run = record { line = set r.line r.len b; len = r.len + 1; machine = r.machine; out = r.out } in
-    let k : pushed r b ≡ q = rw (lt-ltb r.len kept h) in
-    run_on r b (a ++ (10 ∷ t)) (ne_eqb b 10 n) ∙ ap (λ (u : Run). runs u (a ++ (10 ∷ t))) k
-    ∙ run_all a t q (λ j m e. c (suc j) (omega arith) e) (omega arith) (simp length-set p) ∙ rw x
-
--- a line of w bytes stands there whole
 pub record Stands (w : ℕ) (s : List ℕ) : Type 0 where
   pub short : w ≤ kept
   pub long : w < length s
   pub newline : get_or s w 0 ≡ 10
 
-pub stands : (s : List ℕ) (w : ℕ) → w ≡ standing s → 0 < w → Stands w s
+pub stands : (s : List ℕ) (w : ℕ) → standing s ≡ Some w → Stands w s
 unfolding standing newline_behind
-stands s w e h = rw e (pick (newline_behind (total narrow) s) (newline_behind (total wide) s) refl refl (rw e at h))
+stands s w e = pick (newline_behind (total narrow) s) (newline_behind (total wide) s) refl refl e
   where
-    behind : (w : ℕ) → w ≤ kept → newline_behind w s ≡ true → Stands w s
-    behind w k e =
-        let h = both (ltb w (length s)) (eqb (get_or s w 0) 10) e in
-        record { short = k; long = ltb-true _ _ h.0; newline = eqb-true _ _ h.1 }
+    behind : (v : ℕ) → v ≤ kept → newline_behind v s ≡ true → Some v ≡ Some w → Stands w s
+    behind v k b q =
+        let h = and_parts (ltb v (length s)) (eqb (get_or s v 0) 10) b in
+        let z : v ≡ w = ap (λ (o : Option ℕ). unwrap_or o 0) q in
+        let x : Stands v s = record { short = k; long = ltb-true _ _ h.0; newline = eqb-true _ _ h.1 } in
+        rw z at x
 
     pick :
-        (n w : Bool) → newline_behind (total narrow) s ≡ n → newline_behind (total wide) s ≡ w → 0 < cond n (total narrow) (cond w (total wide) 0)
-        → Stands (cond n (total narrow) (cond w (total wide) 0)) s
-    pick true w p q h = behind (total narrow) (lit≤ tt) p
-    pick false true p q h = behind (total wide) (lit≤ tt) q
-    pick false false p q h = absurd (omega arith)
+        (n v : Bool) → newline_behind (total narrow) s ≡ n → newline_behind (total wide) s ≡ v
+        → cond n (Some (total narrow)) (cond v (Some (total wide)) None) ≡ Some w → Stands w s
+    pick true v p q e = behind (total narrow) (lit≤ tt) p e
+    pick false true p q e = behind (total wide) (lit≤ tt) q e
+    pick false false p q e = absurd (true≢false (sym (ap is_some e)))
 
--- and is taken
-pub whole_line :
-    (w : ℕ) (s : List ℕ) → Stands w s → (r : Run) (call : Call) → r.len ≡ 0 → length r.line ≡ kept → line_of (take w s) ≡ Ok call
+-- and is taken: its bytes have no newline among them
+whole_line :
+    (r : Run) (w : ℕ) (s : List ℕ) (call : Call) → Stands w s → r.line ≡ [] → line_of (take w s) ≡ Ok call
     → runs r s ≡ runs (told r (Ok call)) (drop (w + 1) s)
-whole_line w s h r call z p t =
-    let parts : s ≡ take w s ++ (10 ∷ drop (w + 1) s) =
-    sym (take-append-drop w s) ∙ ap (λ (x : List ℕ). take w s ++ x) (drop-cons s w 0 h.long ∙ rw (h.newline, add-one)) in
-    let l : length (take w s) ≡ w = length-take w s ∙ omega (arith, h.long) in
-    ap (runs r) parts
-    ∙ run_all (take w s) (drop (w + 1) s) r (taken_clear (take w s) call t) (omega (arith, l, z, h.short)) p
-    ∙ rw (z, t)
+unfolding kept_on is_newline
+whole_line r w s call h z t =
+    let l : length (take w s) ≡ w = omega (arith, length-take w s, h.long) in
+    let clear : (k : ℕ) → k < w → is_newline (get_or s k 0) ≡ false =
+    λ k m. ne_eqb _ _ (λ e. taken_clear (take w s) call t k (omega (arith, l)) (get_or-take _ _ _ _ m ∙ e)) in
+    let at : newline_at s ≡ w = position_or_len_is is_newline s w 0 (omega (arith, h.long)) clear (λ m. eq-eqb _ _ h.newline) in
+    let k : kept_of (take w s) ≡ take w s = take_all kept (take w s) (omega (arith, l, h.short)) in
+    ended_there (run_of r) (run_after r) (run_by_byte r) s r.line (rw z (omega arith)) (rw at (h.long)) ∙ rw (z, at, k, t)
+
+-- what `whole_call` answers
+pub record Taken (s : List ℕ) (call : Call) (n : ℕ) : Type 0 where
+  pub some : 0 < n
+  pub within : n ≤ length s
+  pub tells : (r : Run) → r.line ≡ [] → runs r s ≡ runs (told r (Ok call)) (drop n s)
+
+pub taken : (s : List ℕ) (call : Call) (n : ℕ) → whole_call s ≡ Some (call, n) → Taken s call n
+unfolding whole_call
+taken s call n e = pick (standing s) refl e
+  where
+    named : (w : ℕ) → standing s ≡ Some w → (l : Result Call LineRefusal) → line_of (take w s) ≡ l → said l w ≡ Some (call, n) → Taken s call n
+    named w p (Err refusal) t q = absurd (true≢false (sym (ap is_some q)))
+    named w p (Ok other) t q =
+        let h = stands s w p in
+        let c : other ≡ call = ap (λ (o : Option (Call × ℕ)). (unwrap_or o (other, 0)).0) q in
+        let z : w + 1 ≡ n = ap (λ (o : Option (Call × ℕ)). (unwrap_or o (other, 0)).1) q in
+        record {
+          some = omega (arith, z);
+          within = omega (arith, z, h.long);
+          tells = λ r k. rw z at (whole_line r w s call h k (t ∙ ap Ok c));
+        }
+
+    pick : (o : Option ℕ) → standing s ≡ o → call_there o s ≡ Some (call, n) → Taken s call n
+    pick None p q = absurd (true≢false (sym (ap is_some q)))
+    pick (Some w) p q = named w p (line_of (take w s)) refl q

@@ -1,53 +1,42 @@
 -- Fed in any chunks, the program writes the answers to the lines of the whole input. Assumes nothing.
-use Prim.Native.Nat.{ℕ, zero, suc, ◌+◌, ◌*◌, ◌/◌, ◌≤◌, ◌<◌}
-use mathlib.Core.Path.{◌≡◌, refl, sym, ap, ◌∙◌}
-use mathlib.Core.Bool.{Bool, true, false, cond}
-use mathlib.Core.List.{List, [], ◌∷◌, ◌++◌, append_assoc, append-nil}
-use native.Mathlib.Omega.{arith}
-use borrow.Author.Tests.{eq-eqb, ne_eqb, ltb-true}
-use lib.Dec.{eqb, ltb, lit≤}
-use lib.ListN.{length, take, drop, replicate, length-replicate}
+use Rattle.std.proofs.Common.{◌≡◌, ℕ, zero, suc, ◌+◌, ◌*◌, ◌/◌, ◌≤◌, Bool, true, false, cond, List, [], ◌∷◌, ◌++◌, Option, Some, None, is_some, unwrap_or, length, take, replicate, refl, sym, ap, ◌∙◌, arith, length-take}
+use mathlib.Core.Bool.{true≢false}
+use mathlib.Core.List.{append_assoc, append-nil}
+use borrow.Author.Tests.{eq-eqb, ne_eqb}
+use lib.Dec.{eqb, lit≤}
+use lib.ListN.{length-replicate}
 use lib.Seq.{take-append-add, take-nil, take_at}
 use Rattle.call_line.specs.Line.{line_of}
+use Rattle.call_list.specs.declared.Machine.{Machine}
 use Rattle.call_list.specs.declared.State.{State}
-use Rattle.call_list.specs.declared.Fed.{Fed}
-use Rattle.call_list.specs.Answer.{Machine, reading_of}
-use Rattle.call_list.specs.Feed.{Run, kept, row_width, pushed_len, pushed, told, ended, step, runs, finished, start_of, fresh, FedBy, Feeds, Finishes, roomy}
-use Rattle.call_list.proofs.KeptLines.{count, same_line, reads_byte}
-use Rattle.call_list.proofs.KeptLines as line
-use Rattle.call_list.proofs.Laying.{length_row}
-use Rattle.call_list.specs.Whole.{last_line, lines_from, lines_of, answered_line, answer_row, answers_to, joined, none, fresh_machine, answers}
-use Rattle.call_list.specs.Whole.{Reached, started, fed, Program}
+use Rattle.call_list.specs.Answer.{fresh_machine, reading_of}
+use Rattle.call_list.specs.Feed.{Run, kept, kept_of, row_width, pushed, told, ended, step, runs, finished, fresh, start_of, left, left_by, roomy, fed, closed}
+use Rattle.call_list.specs.Whole.{last_line, lines_from, lines_of, answered_line, answer_row, answers_to, joined, answers}
+use Rattle.call_list.specs.Whole.{Reached, started, further, Program}
 use Rattle.call_list.specs.Whole.{ended as whole_input}
-use Rattle.call_list.proofs.Feeding.{room_yes}
+use Rattle.call_list.proofs.KeptLines.{cut_line, kept_more}
+use Rattle.call_list.proofs.Laying.{length_row}
+use Rattle.call_list.proofs.Feeding.{onto, runs_onto, room_yes, close}
 
 -- ---- a run in the middle of a line
 
 -- the run r has read l of the present line
 abbrev Reads : Run → List ℕ → Type 0
-Reads r l = line.Reads r.line r.len l
+Reads r l = r.line ≡ kept_of l
 
 -- its end
-module _ (r : Run) (l : List ℕ) (h : Reads r l) where
-  ended_is : ended r ≡ told r (line_of l)
-  ended_is = ap (told r) (same_line r.line r.len l h)
-
-  told_out : (told r (line_of l)).out ≡ r.out ++ answer_row (answered_line r.machine l)
-  told_out = refl
-
-  told_reads : Reads (told r (line_of l)) []
-  told_reads = record { held = record { short = omega arith; whole = refl }; text = refl }
+ended_is : (r : Run) (l : List ℕ) → Reads r l → ended r ≡ told r (line_of l)
+ended_is r l h = ap (told r) (ap line_of h ∙ cut_line l)
 
 -- ---- byte by byte, and line by line
 
 last_out : (r : Run) (l : List ℕ) → Reads r l → (finished r).out ≡ r.out ++ joined (answers_to r.machine (last_line l))
 unfolding last_line answers_to joined
-last_out r [] h = let z : r.len ≡ 0 = omega (arith, count r.line r.len [] h) in simp (eq-eqb _ _ z) (sym (append-nil r.out))
+last_out r [] h = let z : length r.line ≡ 0 = rw h refl in simp (eq-eqb _ _ z) (sym (append-nil r.out))
 last_out r (b ∷ l) h =
-    let z : r.len ≡ 0 → ⊥ = λ e. omega (arith, count r.line r.len (b ∷ l) h) in
+    let z : length r.line ≡ 0 → ⊥ = λ e. omega (arith, e, ap length h, length-take kept (b ∷ l)) in
     simp (ne_eqb _ _ z)
-    (ap (λ (x : Run). x.out) (ended_is r (b ∷ l) h) ∙ told_out r (b ∷ l) h
-    ∙ ap (λ (x : List ℕ). r.out ++ x) (sym (append-nil (answer_row (answered_line r.machine (b ∷ l))))))
+    (ap (λ (x : Run). x.out) (ended_is r (b ∷ l) h) ∙ ap (λ (x : List ℕ). r.out ++ x) (sym (append-nil (answer_row (answered_line r.machine (b ∷ l))))))
 
 flow :
     (s : List ℕ) (r : Run) (l : List ℕ) → Reads r l → (finished (runs r s)).out ≡ r.out ++ joined (answers_to r.machine (lines_from l s))
@@ -58,36 +47,19 @@ flow (b ∷ s) r l h = pick (flow s) (eqb b 10)
     pick :
         ((q : Run) (k : List ℕ) → Reads q k → (finished (runs q s)).out ≡ q.out ++ joined (answers_to q.machine (lines_from k s)))
         → (t : Bool)
-        → (finished (runs (cond t (ended r) (pushed r b)) s)).out
+        → (finished (runs (cond t (ended r) (record r { line = pushed r.line b })) s)).out
         ≡ r.out ++ joined (answers_to r.machine (cond t (l ∷ lines_from [] s) (lines_from (l ++ (b ∷ [])) s)))
     pick ih true =
         ap (λ (x : Run). (finished (runs x s)).out) (ended_is r l h)
-        ∙ ih (told r (line_of l)) [] (told_reads r l h)
-        ∙ ap (λ (x : List ℕ). x ++ joined (answers_to (answered_line r.machine l).machine (lines_from [] s))) (told_out r l h)
+        ∙ ih (told r (line_of l)) [] refl
         ∙ append_assoc r.out (answer_row (answered_line r.machine l)) (joined (answers_to (answered_line r.machine l).machine (lines_from [] s)))
-    pick ih false = ih (pushed r b) (l ++ (b ∷ [])) (reads_byte r.line r.len l b h)
+    pick ih false =
+        ih (record r { line = pushed r.line b }) (l ++ (b ∷ [])) (ap (λ (k : List ℕ). kept_of (k ++ (b ∷ []))) h ∙ kept_more l (b ∷ []))
 
 -- ---- chunk by chunk
 
--- what was written before stands before what is written next
-abbrev onto : List ℕ → Run → Run
-onto o q = record { line = q.line; len = q.len; machine = q.machine; out = o ++ q.out }
-
-step_onto : (r : Run) (o : List ℕ) (b : ℕ) → step (onto o r) b ≡ onto o (step r b)
-unfolding step
-step_onto r o b = pick (eqb b 10)
-  where
-    pick : (t : Bool) → cond t (ended (onto o r)) (pushed (onto o r) b) ≡ onto o (cond t (ended r) (pushed r b))
-    pick true = rw append_assoc
-    pick false = refl
-
-runs_onto : (s : List ℕ) (r : Run) (o : List ℕ) → runs (onto o r) s ≡ onto o (runs r s)
-unfolding runs
-runs_onto [] r o = refl
-runs_onto (b ∷ s) r o = ap (λ (q : Run). runs q s) (step_onto r o b) ∙ runs_onto s (step r b) o
-
 finished_onto : (r : Run) (o : List ℕ) → (finished (onto o r)).out ≡ o ++ (finished r).out
-finished_onto r o = pick (eqb r.len 0)
+finished_onto r o = pick (eqb (length r.line) 0)
   where
     pick : (t : Bool) → (cond t (onto o r) (ended (onto o r))).out ≡ o ++ (cond t r (ended r)).out
     pick true = refl
@@ -98,16 +70,38 @@ unfolding runs
 runs_append [] t r = refl
 runs_append (b ∷ s) t r = runs_append s t (step r b)
 
--- what a call leaves: its bytes, and where the next call starts
-abbrev cleared : Run → Run
-cleared r = record { line = r.line; len = r.len; machine = r.machine; out = [] }
+-- a call that is taken leads to the run r
+record Taken (p' : State) (w : List ℕ) (r : Run) : Type 0 where
+  next : r ≡ onto w (start_of p')
+  wrote : w ≡ r.out
 
-module _ (f : Fed) (ts ss fs out out₀ : List ℕ) (r : Run) (b : FedBy f ts ss fs out r out₀) where
-  written_is : take f.written out ≡ r.out
-  written_is = rw (b.written, b.out) (take_at r.out (drop (length r.out) out₀) (length r.out) refl)
+left_is : (r : Run) (out : List ℕ) (n : ℕ) → (left_by r out).written ≡ Some n → Taken (left_by r out).state (take n (left_by r out).out) r
+left_is r out n e =
+    let k : length r.out ≡ n = ap (λ (o : Option ℕ). unwrap_or o 0) e in
+    let z : take n (left_by r out).out ≡ r.out = take_at r.out _ n k in
+    record { next = rw (z, append-nil) refl; wrote = z }
 
-  next_is : start_of f.state ts ss fs ≡ cleared r
-  next_is = rw (b.state, b.times, b.sizes, b.flags)
+fed_is : (p : State) (c out : List ℕ) (n : ℕ) → (fed p c out).written ≡ Some n → Taken (fed p c out).state (take n (fed p c out).out) (runs (start_of p) c)
+unfolding fed
+fed_is p c out n e = pick (roomy (length c) out) e
+  where
+    pick :
+        (t : Bool)
+        → (let x = cond t (left_by (runs (start_of p) c) out) (left None p out) in
+        x.written ≡ Some n → Taken x.state (take n x.out) (runs (start_of p) c))
+    pick true e = left_is (runs (start_of p) c) out n e
+    pick false e = absurd (true≢false (sym (ap is_some e)))
+
+closed_is : (p : State) (out : List ℕ) (n : ℕ) → (closed p out).written ≡ Some n → take n (closed p out).out ≡ (finished (start_of p)).out
+unfolding closed
+closed_is p out n e = pick (roomy 1 out) e
+  where
+    pick :
+        (t : Bool)
+        → (let x = cond t (left_by (finished (start_of p)) out) (left None p out) in
+        x.written ≡ Some n → take n x.out ≡ (finished (start_of p)).out)
+    pick true e = (left_is (finished (start_of p)) out n e).wrote
+    pick false e = absurd (true≢false (sym (ap is_some e)))
 
 pub joined_append : (cs : List (List ℕ)) (c : List ℕ) → joined (cs ++ (c ∷ [])) ≡ joined cs ++ c
 unfolding joined
@@ -115,45 +109,40 @@ joined_append [] c = append-nil c
 joined_append (b ∷ cs) c = ap (λ (x : List ℕ). b ++ x) (joined_append cs c) ∙ sym (append_assoc b (joined cs) c)
 
 abbrev start : Run
-start = start_of fresh none none none
+start = start_of fresh
 
 -- the chunks lead to where the program is, with what it has written
-runs_to : {cs : List (List ℕ)} {w : List ℕ} {p : State} {ts ss fs : List ℕ} → Reached cs w p ts ss fs → runs start (joined cs) ≡ onto w (start_of p ts ss fs)
+runs_to : {cs : List (List ℕ)} {w : List ℕ} {p : State} → Reached cs w p → runs start (joined cs) ≡ onto w (start_of p)
 unfolding joined runs
 runs_to started = refl
-runs_to (fed {chunks = cs} {w = w} {p = p} {ts = ts} {ss = ss} {fs = fs} f ts' ss' fs' c out out₀ x b t) =
-    let k : roomy p.len (length c) (length out₀) ≡ true = sym b.taken ∙ t in
-    let d = rw k at b.by in
-    let r = runs (start_of p ts ss fs) c in
+runs_to (further {chunks = cs} {w = w} {p = p} c out n x e) =
+    let t = fed_is p c out n e in
     ap (runs start) (joined_append cs c)
     ∙ runs_append (joined cs) c start
     ∙ ap (λ (q : Run). runs q c) (runs_to x)
-    ∙ runs_onto c (start_of p ts ss fs) w
-    ∙ sym
-    (ap (λ (q : Run). onto (w ++ take f.written out) q) (next_is f ts' ss' fs' out out₀ r d)
-    ∙ ap (λ (u : List ℕ). onto (w ++ u) (cleared r)) (written_is f ts' ss' fs' out out₀ r d)
-    ∙ rw (append-nil (w ++ r.out)))
+    ∙ runs_onto c (start_of p) w
+    ∙ ap (onto w) t.next
+    ∙ rw append_assoc refl
 
 -- the whole input's answers, byte by byte
 whole : (input : List ℕ) → answers input ≡ (finished (runs start input)).out
 unfolding answers
-whole input = sym (flow input start [] (record { held = record { short = omega arith; whole = refl }; text = refl }))
+whole input = sym (flow input start [] refl)
 
 -- "The program reads a call list from standard input": however the input is cut into chunks, what is written is the answers to its lines
 pub in_chunks : (chunks : List (List ℕ)) (w : List ℕ) → Program chunks w → w ≡ answers (joined chunks)
-in_chunks chunks _ (whole_input {w = w} {p = p} {ts = ts} {ss = ss} {fs = fs} f ts' ss' fs' out out₀ x b t) =
-    let k : roomy p.len 1 (length out₀) ≡ true = sym b.taken ∙ t in
-    ap (λ (u : List ℕ). w ++ u) (written_is f ts' ss' fs' out out₀ (finished (start_of p ts ss fs)) (rw k at b.by))
-    ∙ sym (finished_onto (start_of p ts ss fs) w)
+in_chunks chunks _ (whole_input {w = w} {p = p} out n x e) =
+    ap (λ (u : List ℕ). w ++ u) (closed_is p out n e)
+    ∙ sym (finished_onto (start_of p) w)
     ∙ ap (λ (q : Run). (finished q).out) (sym (runs_to x))
     ∙ sym (whole (joined chunks))
 
 -- and what is written before its end is the beginning of the answers, whatever follows
 pub so_far :
-    {chunks : List (List ℕ)} {w : List ℕ} {p : State} {ts ss fs : List ℕ} → Reached chunks w p ts ss fs
+    {chunks : List (List ℕ)} {w : List ℕ} {p : State} → Reached chunks w p
     → (rest : List ℕ) → take (length w) (answers (joined chunks ++ rest)) ≡ w
-so_far {chunks} {w} {p} {ts} {ss} {fs} x rest =
-    let r = start_of p ts ss fs in
+so_far {chunks} {w} {p} x rest =
+    let r = start_of p in
     ap (take (length w))
     (whole (joined chunks ++ rest)
     ∙ ap (λ (q : Run). (finished q).out) (runs_append (joined chunks) rest start ∙ ap (λ (q : Run). runs q rest) (runs_to x) ∙ runs_onto rest r w)
@@ -162,91 +151,22 @@ so_far {chunks} {w} {p} {ts} {ss} {fs} x rest =
 
 -- ---- every list of chunks has such a run
 
-pushed_short : (n : ℕ) → n ≤ kept → pushed_len n ≤ kept
-pushed_short n h = pick (ltb n kept) refl
-  where
-    pick : (t : Bool) → ltb n kept ≡ t → cond t (n + 1) n ≤ kept
-    pick true e = let k : n < kept = ltb-true n kept e in omega arith
-    pick false e = h
+abbrev room : ℕ → List ℕ
+room n = replicate (row_width * n) 0
 
-step_short : (r : Run) (b : ℕ) → r.len ≤ kept → (step r b).len ≤ kept
-unfolding step
-step_short r b h = pick (eqb b 10)
-  where
-    pick : (t : Bool) → (cond t (ended r) (pushed r b)).len ≤ kept
-    pick true = omega arith
-    pick false = pushed_short r.len h
-
-runs_short : (s : List ℕ) (r : Run) → r.len ≤ kept → (runs r s).len ≤ kept
-unfolding runs
-runs_short [] r h = h
-runs_short (b ∷ s) r h = runs_short s (step r b) (step_short r b h)
-
--- so wherever the program is, it takes a chunk if the buffer has room
-pub reached_short : {cs : List (List ℕ)} {w : List ℕ} {p : State} {ts ss fs : List ℕ} → Reached cs w p ts ss fs → p.len ≤ kept
-reached_short {cs} x = rw (ap (λ (q : Run). q.len) (runs_to x)) at (runs_short (joined cs) start (omega arith))
-
--- what a call leaves that takes the program to the run r
-abbrev left : Run → Fed
-left r =
-    record {
-      taken = true;
-      state = record { line = r.line; len = r.len; controller = r.machine.controller; queued = r.machine.queue.count };
-      written = length r.out;
-    }
-
-abbrev buffer : Run → List ℕ → List ℕ
-buffer r out₀ = r.out ++ drop (length r.out) out₀
-
-left_by :
-    (r : Run) (out₀ : List ℕ)
-    → FedBy (left r) r.machine.queue.times r.machine.queue.sizes r.machine.queue.flags (buffer r out₀) r out₀
-left_by r out₀ = record { state = refl; written = refl; times = refl; sizes = refl; flags = refl; out = refl }
-
-module _ (p : State) (ts ss fs out₀ : List ℕ) (h : p.len ≤ kept) where
-  pub feeds :
-      (c : List ℕ) → length c ≤ length out₀ / row_width
-      → (let r = runs (start_of p ts ss fs) c in
-      let q = r.machine.queue in
-      Feeds (left r) q.times q.sizes q.flags (buffer r out₀) p ts ss fs c out₀)
-  feeds c l =
-      let k = room_yes p.len (length c) (length out₀) h l in
-      record { taken = sym k; by = rw k (left_by (runs (start_of p ts ss fs) c) out₀) }
-
-  pub finishes :
-      row_width ≤ length out₀
-      → (let r = finished (start_of p ts ss fs) in
-      let q = r.machine.queue in
-      Finishes (left r) q.times q.sizes q.flags (buffer r out₀) p ts ss fs out₀)
-  finishes l =
-      let k = room_yes p.len 1 (length out₀) h (omega arith) in
-      record { taken = sym k; by = rw k (left_by (finished (start_of p ts ss fs)) out₀) }
+room_long : (n : ℕ) → n ≤ length (room n) / row_width
+room_long n = let l : length (room n) ≡ row_width * n = length-replicate (row_width * n) 0 in omega (arith, l)
 
 -- some run that was fed the chunks
 record Somewhere (chunks : List (List ℕ)) : Type 0 where
   w : List ℕ
   state : State
-  times : List ℕ
-  sizes : List ℕ
-  flags : List ℕ
-  reached : Reached chunks w state times sizes flags
-
-abbrev room : ℕ → List ℕ
-room n = replicate (row_width * n) 0
+  reached : Reached chunks w state
 
 one_more : (chunks : List (List ℕ)) (c : List ℕ) → Somewhere chunks → Somewhere (chunks ++ (c ∷ []))
 one_more chunks c x =
-    let o = room (length c) in
-    let r = runs (start_of x.state x.times x.sizes x.flags) c in
-    let l : length o ≡ row_width * length c = length-replicate (row_width * length c) 0 in
-    record {
-      w = x.w ++ take (length r.out) (buffer r o);
-      state = (left r).state;
-      times = r.machine.queue.times;
-      sizes = r.machine.queue.sizes;
-      flags = r.machine.queue.flags;
-      reached = fed (left r) _ _ _ c (buffer r o) o x.reached (feeds _ _ _ _ o (reached_short x.reached) c (omega arith)) refl;
-    }
+    let e = ap (λ l. l.written) (room_yes x.state c (room (length c)) (room_long (length c))) in
+    record { w = _; state = _; reached = further c (room (length c)) _ x.reached e }
 
 onward : (cs chunks : List (List ℕ)) → Somewhere chunks → Somewhere (chunks ++ cs)
 onward [] chunks x = rw (append-nil chunks) x
@@ -255,11 +175,8 @@ onward (c ∷ cs) chunks x = rw (append_assoc chunks (c ∷ []) cs) at (onward c
 -- whatever the chunks, the program answers them: with the answers to the lines of the whole input
 pub every_list : (chunks : List (List ℕ)) → Program chunks (answers (joined chunks))
 every_list chunks =
-    let x =
-    onward chunks []
-    (record { w = []; state = fresh; times = none; sizes = none; flags = none; reached = started }) in
-    let p : Program chunks _ =
-    whole_input _ _ _ _ _ (room 1) x.reached (finishes x.state x.times x.sizes x.flags (room 1) (reached_short x.reached) (lit≤ tt)) refl in
+    let x = onward chunks [] (record { w = []; state = fresh; reached = started }) in
+    let p : Program chunks _ = whole_input (room 1) _ x.reached (ap (λ l. l.written) (close x.state (room 1) (lit≤ tt))) in
     rw (in_chunks chunks _ p) at p
 
 -- ---- the answer to a line hangs on the lines up to it alone

@@ -1,5 +1,5 @@
 -- Worked examples of the definitions beside this file, which antt computes. They test the definitions; no proof cites them.
-use Rattle.std.specs.Prelude.{ℕ, ◌≡◌, refl, Ok, Err, Bool, true, false, List, [], ◌∷◌, ◌++◌, map, replicate}
+use Rattle.std.specs.Prelude.{ℕ, ◌≡◌, refl, Some, None, Ok, Err, Bool, true, false, List, [], ◌∷◌, ◌++◌, map, replicate}
 use Rattle.std.specs.Result.{result_unwrap_or}
 use Rattle.std.specs.Float.Ieee.{lt, of_bits, to_bits}
 use Rattle.float.specs.Rust.{sign_bit}
@@ -15,7 +15,8 @@ use Rattle.call_line.specs.Line.{call_of, checked, refused, said, line_of}
 use Rattle.call_line.specs.declared.Call.TheVariants.{Packet, Read}
 use Rattle.call_line.specs.declared.LineRefusal.TheVariants.{Other}
 use Rattle.call_list.specs.Pieces.{newline_behind, standing}
-use Rattle.call_list.specs.Answer.{Machine, Answered, queue_of, call_after, after_of, reading_of, answer_widths, text_of, row_of}
+use Rattle.call_list.specs.declared.Machine.{Machine}
+use Rattle.call_list.specs.Answer.{Answered, answered as leaves, started, call_after, after_of, reading_of, answer_widths, text_of, row_of}
 use Rattle.call_list.specs.Whole.{last_line, lines_from, lines_of, answers_to, joined, answers}
 
 -- a newline behind 48 bytes, behind 50, behind both, behind 49 and behind 51; 48 and 50 bytes without one
@@ -29,7 +30,7 @@ widths :
     ∷ replicate 48 32
     ∷ replicate 50 32
     ∷ []) ≡
-    48 ∷ 50 ∷ 48 ∷ 0 ∷ 0 ∷ 0 ∷ 0 ∷ []
+    Some 48 ∷ Some 50 ∷ Some 48 ∷ None ∷ None ∷ None ∷ None ∷ []
 unfolding standing newline_behind
 widths = refl
 
@@ -66,11 +67,12 @@ used use_bytes =
     record {
       controller =
           record (result_unwrap_or (set_bandwidth_estimate (initial use_bytes) (rate_of megabit)) (initial use_bytes)) { observations = cleared use_bytes 7 };
-      queue = queue_of 2 (7 ∷ 8 ∷ []) (1200 ∷ 60 ∷ []) (0 ∷ 1 ∷ []);
+      queue =
+          record {
+            items =
+                record { local_send_time = 7; size = 1200; lost = 0 } ∷ record { local_send_time = 8; size = 60; lost = 1 } ∷ [];
+          };
     }
-
-abbrev fresh : Bool → Machine
-fresh use_bytes = record { controller = initial use_bytes; queue = queue_of 0 (7 ∷ 8 ∷ []) (1200 ∷ 60 ∷ []) (0 ∷ 1 ∷ []) }
 
 -- the line of kind 8 with this A and B, after a controller of either profile
 start : Machine → ℕ → ℕ → Answered
@@ -78,18 +80,18 @@ start m a b = after_of m (line_of (row wide (8 ∷ a ∷ b ∷ 0 ∷ [])))
 
 -- the other profile and the same: estimate, count and queue are gone
 restarted :
-    (start (used true) 0 1 ≡ record { outcome = Ok tt; machine = fresh false })
-    × (start (used true) 0 0 ≡ record { outcome = Ok tt; machine = fresh true })
-    × (start (used false) 0 0 ≡ record { outcome = Ok tt; machine = fresh true })
-    × (start (used false) 0 1 ≡ record { outcome = Ok tt; machine = fresh false })
+    (start (used true) 0 1 ≡ leaves (Ok tt) (started false))
+    × (start (used true) 0 0 ≡ leaves (Ok tt) (started true))
+    × (start (used false) 0 0 ≡ leaves (Ok tt) (started true))
+    × (start (used false) 0 1 ≡ leaves (Ok tt) (started false))
 unfolding start row column line_of said checked refused fields_of fields_in four column_of leading_spaces digits_of is_digit more after_zero in_table call_of by_flag start_of after_of
     call_after
 restarted = (refl, refl, refl, refl)
 
 -- refused, nothing is
 not_restarted :
-    (start (used true) 0 2 ≡ record { outcome = Err Flag; machine = used true })
-    × (start (used true) 1 1 ≡ record { outcome = Err NotInShape; machine = used true })
+    (start (used true) 0 2 ≡ leaves (Err Flag) (used true))
+    × (start (used true) 1 1 ≡ leaves (Err NotInShape) (used true))
 unfolding start row column line_of said checked refused fields_of fields_in four column_of leading_spaces digits_of is_digit more after_zero in_table call_of by_flag start_of after_of
 not_restarted = (refl, refl)
 

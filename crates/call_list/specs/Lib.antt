@@ -1,7 +1,7 @@
 pub mod Answer
-pub mod Split
 pub mod Feed
 pub mod Pieces
+pub mod Feeds
 pub mod Whole
 pub mod Made
 mod Examples

@@ -1,33 +1,28 @@
 -- The pieces that `feed` is made of, `read_on` among them. Definitions only.
-use Rattle.std.specs.Prelude.{ℕ, ◌+◌, ◌*◌, ◌≤◌, ◌≡◌, Bool, true, false, if◌then◌else◌, ◌&&◌, List, [], ◌∷◌, eqb, ltb, length, take, drop, get_or}
+use Rattle.std.specs.Prelude.{ℕ, ◌+◌, Bool, if◌then◌else◌, ◌&&◌, Option, Some, None, option_map, Result, Ok, Err, List, ◌++◌, eqb, ltb, length, take, get_or}
+use Rattle.std.specs.List.{position, before_first}
 use Rattle.call_line.specs.Column.{total}
-use Rattle.call_line.specs.Line.{wide, narrow}
-use Rattle.call_list.specs.declared.Session.{Session}
-use Rattle.call_list.specs.declared.Quiet.{Quiet}
-use Rattle.call_list.specs.declared.Next.{Next}
-use Rattle.call_list.specs.Answer.{places, machine_of, reading_of}
-use Rattle.call_list.specs.Split.{Queued}
-use Rattle.call_list.specs.Feed.{Run, kept, row_width, pushed_line, pushed_len, runs}
-
--- what a call leaves without the controller
-pub record QuietBy (r : Quiet) (ts ss fs : List ℕ) (q : Queued) : Type 0 where
-  pub quiet : r ≡ record { outcome = q.outcome; queued = q.queue.count }
-  pub times : ts ≡ q.queue.times
-  pub sizes : ss ≡ q.queue.sizes
-  pub flags : fs ≡ q.queue.flags
-
--- how many packets the queue has: all its places where more are counted
-abbrev pub held : ℕ → ℕ
-held n = if ltb places n then places else n
+use Rattle.call_line.specs.Line.{wide, narrow, line_of}
+use Rattle.call_line.specs.declared.Call.{Call}
+use Rattle.call_line.specs.declared.LineRefusal.{LineRefusal}
+use Rattle.call_list.specs.Feed.{kept_of}
 
 -- ---- a line that ends in the bytes s
 
--- the bytes of a line that are kept, up to the newline or all of them; i counts bytes
-unfoldable pub next_of : List ℕ → ℕ → ℕ → List ℕ → Next
-next_of line len i [] = record { line = line; len = len; read = i; ended = false }
-next_of line len i (b ∷ s) =
-    if eqb b 10 then record { line = line; len = len; read = i + 1; ended = true }
-    else next_of (pushed_line line len b) (pushed_len len) (i + 1) s
+unfoldable pub is_newline : ℕ → Bool
+is_newline b = eqb b 10
+
+-- where the newline is, if they have one
+abbrev pub newline : List ℕ → Option ℕ
+newline s = position is_newline s
+
+-- how many of them there are up to the newline and with it
+unfoldable pub line_end : List ℕ → Option ℕ
+line_end s = option_map (λ i. i + 1) (newline s)
+
+-- the bytes of the line that are kept, up to the newline or all of them
+unfoldable pub kept_on : List ℕ → List ℕ → List ℕ
+kept_on line s = kept_of (line ++ before_first is_newline s)
 
 -- ---- lines that stand whole in them
 
@@ -35,23 +30,20 @@ next_of line len i (b ∷ s) =
 unfoldable pub newline_behind : ℕ → List ℕ → Bool
 newline_behind w s = ltb w (length s) && eqb (get_or s w 0) 10
 
--- how wide a line may be that starts there: narrow where a newline stands behind so many bytes, else wide, and 0 where neither can be
-unfoldable pub standing : List ℕ → ℕ
+-- how wide a line may be that starts there: narrow where a newline stands behind so many bytes, else wide, where neither can be none
+unfoldable pub standing : List ℕ → Option ℕ
 standing s =
-    if newline_behind (total narrow) s then total narrow else (if newline_behind (total wide) s then total wide else 0)
+    if newline_behind (total narrow) s then Some (total narrow)
+    else (if newline_behind (total wide) s then Some (total wide) else None)
 
--- ---- a chunk that is partly answered
+-- what a line of that width says, if it is taken, and how many bytes it has with its newline
+abbrev pub said : Result Call LineRefusal → ℕ → Option (Call × ℕ)
+said (Ok call) width = Some (call, width + 1)
+said (Err refusal) width = None
 
-abbrev pub here : List ℕ → ℕ → Session → List ℕ → List ℕ → List ℕ → List ℕ → Run
-here line len s ts ss fs out = record { line = line; len = len; machine = machine_of s ts ss fs; out = out }
+abbrev pub call_there : Option ℕ → List ℕ → Option (Call × ℕ)
+call_there (Some width) s = said (line_of (take width s)) width
+call_there None s = None
 
--- its first i bytes are, by w bytes of the output, which was out₀; the others lead to the run `end`
-pub record At (chunk out₀ : List ℕ) (end : Run) (ts ss fs out line : List ℕ) (len : ℕ) (s : Session) (w i : ℕ) : Type 0 where
-  pub read : i ≤ length chunk
-  pub short : len ≤ kept
-  pub whole : length line ≡ kept
-  pub out_kept : length out ≡ length out₀
-  pub room : w ≤ row_width * i
-  pub rest : drop w out ≡ drop w out₀
-  pub reading : s.reading ≡ reading_of s.controller
-  pub same : end ≡ runs (here line len s ts ss fs (take w out)) (drop i chunk)
+unfoldable pub whole_call : List ℕ → Option (Call × ℕ)
+whole_call s = call_there (standing s) s

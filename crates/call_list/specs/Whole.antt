@@ -1,11 +1,10 @@
 -- The whole input: its lines, and the answers to them. Definitions only.
-use Rattle.std.specs.Prelude.{ℕ, ◌≡◌, true, if◌then◌else◌, List, [], ◌∷◌, ◌++◌, eqb, take, replicate}
-use Rattle.loss_controller.specs.Controller.{initial}
+use Rattle.std.specs.Prelude.{ℕ, ◌≡◌, if◌then◌else◌, Some, List, [], ◌∷◌, ◌++◌, eqb, take}
 use Rattle.call_line.specs.Line.{line_of}
-use Rattle.call_list.specs.Answer.{Machine, Answered, places, queue_of, after_of, reading_of, row_of}
+use Rattle.call_list.specs.declared.Machine.{Machine}
 use Rattle.call_list.specs.declared.State.{State}
-use Rattle.call_list.specs.declared.Fed.{Fed}
-use Rattle.call_list.specs.Feed.{fresh, Feeds, Finishes}
+use Rattle.call_list.specs.Answer.{Answered, fresh_machine, after_of, reading_of, row_of}
+use Rattle.call_list.specs.Feed.{fresh, fed, closed}
 
 -- "A last line may lack its newline; empty input prints nothing": what follows the last newline is a line unless it is empty
 unfoldable pub last_line : List ℕ → List (List ℕ)
@@ -36,32 +35,23 @@ unfoldable pub joined : List (List ℕ) → List ℕ
 joined [] = []
 joined (c ∷ cs) = c ++ joined cs
 
--- a column of the queue at the start
-abbrev pub none : List ℕ
-none = replicate places 0
-
--- a fresh controller and an empty queue: "a list without it runs by bytes" (Q-7)
-abbrev pub fresh_machine : Machine
-fresh_machine = record { controller = initial true; queue = queue_of 0 none none none }
-
 -- what the program writes, whole
 unfoldable pub answers : List ℕ → List ℕ
 answers input = joined (answers_to fresh_machine (lines_of input))
 
 -- ---- the program: chunks fed one after another, and a finish
 
--- from its start, fed the chunks by calls of `feed` that are taken, whatever their buffers hold, the program has written w; it is in the state p, with
--- these columns of the queue
-pub data Reached : List (List ℕ) → List ℕ → State → List ℕ → List ℕ → List ℕ → Type 0 where
-  started : Reached [] [] fresh none none none
-  fed :
-      {chunks : List (List ℕ)} {w : List ℕ} {p : State} {ts ss fs : List ℕ} (f : Fed) (ts' ss' fs' c out out₀ : List ℕ)
-      → Reached chunks w p ts ss fs → Feeds f ts' ss' fs' out p ts ss fs c out₀ → f.taken ≡ true
-      → Reached (chunks ++ (c ∷ [])) (w ++ take f.written out) f.state ts' ss' fs'
+-- from its start, fed the chunks by calls of `feed` that are taken, whatever their buffers hold, the program has written w; it is in the state p
+pub data Reached : List (List ℕ) → List ℕ → State → Type 0 where
+  started : Reached [] [] fresh
+  further :
+      {chunks : List (List ℕ)} {w : List ℕ} {p : State} (c out : List ℕ) (n : ℕ)
+      → Reached chunks w p → (fed p c out).written ≡ Some n
+      → Reached (chunks ++ (c ∷ [])) (w ++ take n (fed p c out).out) (fed p c out).state
 
 -- and by a call of `finish` that is taken it has written all
 pub data Program : List (List ℕ) → List ℕ → Type 0 where
   ended :
-      {chunks : List (List ℕ)} {w : List ℕ} {p : State} {ts ss fs : List ℕ} (f : Fed) (ts' ss' fs' out out₀ : List ℕ)
-      → Reached chunks w p ts ss fs → Finishes f ts' ss' fs' out p ts ss fs out₀ → f.taken ≡ true
-      → Program chunks (w ++ take f.written out)
+      {chunks : List (List ℕ)} {w : List ℕ} {p : State} (out : List ℕ) (n : ℕ)
+      → Reached chunks w p → (closed p out).written ≡ Some n
+      → Program chunks (w ++ take n (closed p out).out)

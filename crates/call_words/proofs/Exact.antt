@@ -1,24 +1,15 @@
 -- A whole rate that is taken is exact. Assumes nothing.
-use Rattle.std.proofs.Common.{◌≡◌, ℕ, ◌^◌, ◌≤◌, Bool, true, false, cond, eqb, leb, List, [], ◌∷◌, pos, refl, arith, eqb-true, leb-true}
+use Rattle.std.proofs.Common.{◌≡◌, ℕ, ◌^◌, ◌≤◌, Bool, true, false, cond, leb, pos, refl, sym, arith, leb-true}
 use lib.Ieee.{binary64, inf, of_bits, to_bits, of_int}
 use lib.Ieee.Back.{round_whole}
 use lib.Ieee.Bits.{of_bits-to_bits}
 use lib.Ieee.Exact.{HasValue}
 use lib.Ieee.Fits.{of_int-fits}
-use Rattle.float.proofs.Both.{both}
 use Rattle.call_line.specs.Column.{is_digit, more, digits_of}
 use Rattle.std.proofs.Common.{Some, None}
 use Rattle.call_words.specs.Words.{ascii, same, at_most, bits_of, rate_of}
+use Rattle.std.specs.Cmp.Lexicographic.{same_text}
 use Rattle.call_words.specs.Laws.{RateExact}
-
-same_true : (s t : List ℕ) → same s t ≡ true → s ≡ t
-unfolding same
-same_true [] [] e = refl
-same_true [] (b ∷ t) e = cc
-same_true (a ∷ s) [] e = cc
-same_true (a ∷ s) (b ∷ t) e =
-    let h = both (eqb a b) (same s t) e in
-    cc (eqb-true a b h.0, same_true s t h.1)
 
 inf_no_number : digits_of (ascii "inf") ≡ None
 unfolding digits_of is_digit more
@@ -36,7 +27,7 @@ rate_exact word n bits d e = pick (same word (ascii "inf")) refl (rw d at e)
         (t : Bool) → same word (ascii "inf") ≡ t
         → cond t (Some (to_bits binary64 (inf false))) (bits_of (cond (leb n (10 ^ 15)) (Some n) None)) ≡ Some bits
         → HasValue (of_bits binary64 bits) false n 1
-    pick true q f = cc (same_true word (ascii "inf") q, inf_no_number)
+    pick true q f = cc (same_text word (ascii "inf") (sym q), inf_no_number)
     pick false q f = taken (leb n (10 ^ 15)) refl f
       where
         taken :

@@ -7,8 +7,8 @@ use lib.Ieee.Fits.{of_int-fits}
 use Rattle.float.specs.Rust.{sign_bit}
 use Rattle.float.proofs.Refusal.{either}
 use Rattle.bandwidth.specs.Rate.{rate}
-use Rattle.packets.specs.Summary.{largest_packet, latest_time, check_packet}
-use Rattle.loss_controller.specs.Setters.{check_rate, check_time}
+use Rattle.packets.specs.Summary.{largest_packet, latest_time, check_time, check_packet}
+use Rattle.loss_controller.specs.Setters.{check_rate}
 use Rattle.std.specs.Prelude.{ok_or, IfSome, IfOk}
 use Rattle.refusal.specs.Outcome.{and_then}
 use Rattle.call_line.specs.Column.{digits_of}
@@ -19,13 +19,13 @@ use Rattle.call_line.specs.declared.Call.{Call}
 use Rattle.call_line.specs.declared.Call.TheVariants.{Estimate, Acknowledged, AlrOn, AlrOff, CapacityIs, CapacityNone, Packet, Report, Read, StartBytes, StartPackets}
 use Rattle.call_line.proofs.Written.{call_says}
 use Rattle.call_words.specs.declared.Why.{Why}
-use Rattle.call_words.specs.declared.Why.TheVariants.{Rate, Time, Size}
+use Rattle.call_words.specs.declared.Why.TheVariants.{UnknownCall, Rate, Time, Size, Outcome, Measure}
 use Rattle.call_words.specs.declared.Valued.{Valued}
 use Rattle.call_words.specs.declared.Valued.TheVariants.{Estimate as Valued-as-Estimate, Acknowledged as Valued-as-Acknowledged}
 use Rattle.call_words.specs.declared.Valued.TheVariants.{Alr as Valued-as-Alr, Capacity as Valued-as-Capacity, Report as Valued-as-Report, Start as Valued-as-Start}
 use Rattle.call_words.specs.declared.Name.{Name}
-use Rattle.call_words.specs.declared.Name.TheVariants.{WithValue, Packet as Name-as-Packet, Read as Name-as-Read, Unknown}
-use Rattle.call_words.specs.Words.{ascii, same, at_most, bits_of, rate_of, size_of, nanos_of, time_of, given, alr_of, capacity_of, start_of, with_value}
+use Rattle.call_words.specs.declared.Name.TheVariants.{WithValue, Packet as Name-as-Packet, Read as Name-as-Read}
+use Rattle.call_words.specs.Words.{ascii, same, look_up, measures, outcomes, at_most, bits_of, rate_of, size_of, nanos_of, time_of, given, alr_of, capacity_of, start_of, with_value}
 use Rattle.call_words.specs.Words.{with_outcome, packet_of, name_of, call_of, is_comment, said, words_in, words_of}
 use Rattle.call_words.specs.Laws.{WordsTaken, WordsRead}
 use Rattle.call_words.proofs.Numbers.{at_most_lem}
@@ -106,7 +106,7 @@ given_fits call why (Some n) h = h
 given_fits call why None h = tt
 
 value_fits : (name : Valued) (word : List ℕ) → IfOk (with_value name word) Fits
-unfolding with_value alr_of capacity_of start_of
+unfolding with_value alr_of capacity_of start_of measures look_up
 value_fits Valued-as-Estimate word = given_fits Estimate Rate (rate_of word) (rate_rated word)
 value_fits Valued-as-Acknowledged word = given_fits Acknowledged Rate (rate_of word) (rate_rated word)
 value_fits Valued-as-Alr word =
@@ -115,15 +115,16 @@ value_fits Valued-as-Capacity word =
     either Fitting (same word (ascii "none")) _ _ tt (given_fits CapacityIs Rate (rate_of word) (rate_rated word))
 value_fits Valued-as-Report word = given_fits Report Rate (rate_of word) (rate_rated word)
 value_fits Valued-as-Start word =
-    either Fitting (same word (ascii "bytes")) _ _ tt (either Fitting (same word (ascii "packets")) _ _ tt tt)
+    either (λ o. Fitting (ok_or o Measure)) (same (ascii "bytes") word) _ _ tt
+    (either (λ o. Fitting (ok_or o Measure)) (same (ascii "packets") word) _ _ tt tt)
 
 packet_fits :
     (time size : Option ℕ) (outcome : List ℕ) → IfSome time (λ n. n ≤ latest_time) → IfSome size (λ n. n ≤ largest_packet)
     → IfOk (and_then (ok_or time Time) (λ t. and_then (ok_or size Size) (λ n. with_outcome t n outcome))) Fits
-unfolding with_outcome
+unfolding with_outcome outcomes look_up
 packet_fits (Some time) (Some size) outcome t s =
-    either Fitting (same outcome (ascii "lost")) _ _ (t, (lit≤ tt, s))
-    (either Fitting (same outcome (ascii "arrived")) _ _ (t, (lit≤ tt, s)) tt)
+    let P : Option ℕ → Type 0 = λ (o : Option ℕ). Fitting (and_then (ok_or o Outcome) (λ lost. Ok (Packet time lost size))) in
+    either P (same (ascii "lost") outcome) _ _ (t, (lit≤ tt, s)) (either P (same (ascii "arrived") outcome) _ _ (t, (lit≤ tt, s)) tt)
 packet_fits (Some time) None outcome t s = tt
 packet_fits None size outcome t s = tt
 
@@ -140,7 +141,6 @@ call_fits Name-as-Packet (a ∷ b ∷ []) = tt
 call_fits Name-as-Packet (a ∷ b ∷ c ∷ d ∷ more) = tt
 call_fits Name-as-Read [] = tt
 call_fits Name-as-Read (a ∷ more) = tt
-call_fits Unknown words = tt
 
 then_fits : (r : Result Call Why) → IfOk r Fits → IfCalled Fits (and_then r (λ call. Ok (Some call)))
 then_fits (Ok call) h = h
@@ -149,7 +149,11 @@ then_fits (Err why) h = tt
 said_fits : (words : List (List ℕ)) → IfCalled Fits (said words)
 unfolding said
 said_fits [] = tt
-said_fits (first ∷ words) = either (IfCalled Fits) (is_comment first) _ _ tt (then_fits (call_of (name_of first) words) (call_fits (name_of first) words))
+said_fits (first ∷ words) = either (IfCalled Fits) (is_comment first) _ _ tt (named (name_of first))
+  where
+    named : (o : Option Name) → IfCalled Fits (and_then (ok_or o UnknownCall) (λ name. and_then (call_of name words) (λ call. Ok (Some call))))
+    named (Some name) = then_fits (call_of name words) (call_fits name words)
+    named None = tt
 
 -- ---- what the reader checks
 

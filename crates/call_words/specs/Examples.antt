@@ -7,9 +7,9 @@ use Rattle.call_line.specs.declared.Call.{Call}
 use Rattle.call_line.specs.declared.Call.TheVariants.{Estimate, Acknowledged, AlrOn, AlrOff, CapacityIs, CapacityNone, Packet, Report, Read, StartBytes, StartPackets}
 use Rattle.call_words.specs.declared.Why.{Why}
 use Rattle.call_words.specs.declared.Why.TheVariants.{UnknownCall, WordCount, Rate, Time, Size, Outcome, Measure}
-use Rattle.call_words.specs.Words.{ascii, same, up_to, on_from, is_blank, words_from, words_in, at_most, bits_of, rate_of, size_of, is_point}
+use Rattle.call_words.specs.Words.{ascii, up_to, on_from, is_blank, words_from, words_in, at_most, bits_of, rate_of, size_of, is_point}
 use Rattle.call_words.specs.Words.{times, places_of, fraction_of, plus, nanos_of, time_of, given, alr_of, capacity_of, start_of, with_value}
-use Rattle.call_words.specs.Words.{with_outcome, packet_of, names, name_in, call_of, is_comment, said, words_of}
+use Rattle.call_words.specs.Words.{with_outcome, packet_of, outcomes, measures, names, look_up, call_of, is_comment, said, words_of}
 
 abbrev line : String → Result (Option Call) Why
 line text = words_of (ascii text)
@@ -31,18 +31,18 @@ words = refl
 
 -- lines that say nothing: an empty one, one of blanks, comments; and a sign of a comment that is not at the first word
 nothing : map line ("" ∷ "   " ∷ "#" ∷ "# estimate 1" ∷ "  #read" ∷ "read #" ∷ []) ≡ replicate 5 (Ok None) ++ (Err WordCount ∷ [])
-unfolding words_of said is_comment words_from is_blank up_to names name_in same call_of
+unfolding words_of said is_comment words_from is_blank up_to names look_up call_of
 nothing = refl
 
 -- a tab between words and a CR at the end
 blanks : words_of (ascii "alr" ++ (9 ∷ (ascii "off" ++ (13 ∷ [])))) ≡ Ok (Some AlrOff)
-unfolding words_of said is_comment words_from is_blank up_to names name_in same call_of with_value alr_of
+unfolding words_of said is_comment words_from is_blank up_to names look_up call_of with_value alr_of
 blanks = refl
 
 -- ---- names and numbers of words
 
 unknown : map line ("estimates 1" ∷ "Estimate 1" ∷ "estimat" ∷ "inf" ∷ "lost" ∷ []) ≡ replicate 5 (Err UnknownCall)
-unfolding words_of said is_comment words_from is_blank up_to names name_in same call_of
+unfolding words_of said is_comment words_from is_blank up_to names look_up call_of
 unknown = refl
 
 -- the number of words is told before what is wrong with one of them, and an unknown name before the number
@@ -63,7 +63,7 @@ counts :
     ∷ "hello x y z"
     ∷ []) ≡
     replicate 12 (Err WordCount) ++ (Err UnknownCall ∷ [])
-unfolding words_of said is_comment words_from is_blank up_to names name_in same call_of
+unfolding words_of said is_comment words_from is_blank up_to names look_up call_of
 counts = refl
 
 -- ---- rates
@@ -86,13 +86,13 @@ rates :
     ∷ []) ≡
     Ok (Some (Estimate 0)) ∷ Ok (Some (Acknowledged 0x3FF0000000000000)) ∷ Ok (Some (Report 0x414312D000000000)) ∷ Ok (Some (Estimate 0x430C6BF526340000))
     ∷ Ok (Some (CapacityIs 0x7FF0000000000000)) ∷ replicate 7 (Err Rate)
-unfolding words_of said is_comment words_from is_blank up_to names name_in same call_of with_value given capacity_of rate_of bits_of at_most digits_of is_digit
+unfolding words_of said is_comment words_from is_blank up_to names look_up call_of with_value given capacity_of rate_of bits_of at_most digits_of is_digit
     more after_zero of_int to_bits
 rates = refl
 
 -- none is a capacity alone
 none : map line ("capacity none" ∷ "estimate none" ∷ []) ≡ Ok (Some CapacityNone) ∷ Err Rate ∷ []
-unfolding words_of said is_comment words_from is_blank up_to names name_in same call_of with_value given capacity_of rate_of bits_of at_most digits_of is_digit
+unfolding words_of said is_comment words_from is_blank up_to names look_up call_of with_value given capacity_of rate_of bits_of at_most digits_of is_digit
     more after_zero
 none = refl
 
@@ -110,7 +110,7 @@ times_right :
     ∷ []) ≡
     map (λ n. Ok (Some (AlrOn n)))
     (0 ∷ 1500000000 ∷ 1 ∷ 12050000000 ∷ 3999999999999999999 ∷ 4000000000000000000 ∷ [])
-unfolding words_of said is_comment words_from is_blank up_to names name_in same call_of with_value given alr_of time_of nanos_of is_point on_from plus times at_most
+unfolding words_of said is_comment words_from is_blank up_to names look_up call_of with_value given alr_of time_of nanos_of is_point on_from plus times at_most
     fraction_of places_of digits_of is_digit more after_zero
 times_right = refl
 
@@ -130,7 +130,7 @@ times_wrong :
     ∷ "alr inf"
     ∷ []) ≡
     replicate 11 (Err Time)
-unfolding words_of said is_comment words_from is_blank up_to names name_in same call_of with_value given alr_of time_of nanos_of is_point on_from plus times at_most
+unfolding words_of said is_comment words_from is_blank up_to names look_up call_of with_value given alr_of time_of nanos_of is_point on_from plus times at_most
     fraction_of places_of digits_of is_digit more after_zero
 times_wrong = refl
 
@@ -151,12 +151,12 @@ packets :
     ∷ []) ≡
     Ok (Some (Packet 120000000 1 1200)) ∷ Ok (Some (Packet 120000000 0 1200)) ∷ Ok (Some (Packet 0 1 0)) ∷ Ok (Some (Packet 0 0 9999999)) ∷ Err Size ∷ Err Size
     ∷ Err Outcome ∷ Err Size ∷ Err Time ∷ Err Time ∷ []
-unfolding words_of said is_comment words_from is_blank up_to names name_in same call_of packet_of with_outcome size_of time_of nanos_of is_point on_from plus
+unfolding words_of said is_comment words_from is_blank up_to names look_up call_of packet_of with_outcome outcomes size_of time_of nanos_of is_point on_from plus
     times at_most fraction_of places_of digits_of is_digit more after_zero
 packets = refl
 
 reading : line "read" ≡ Ok (Some Read)
-unfolding words_of said is_comment words_from is_blank up_to names name_in same call_of
+unfolding words_of said is_comment words_from is_blank up_to names look_up call_of
 reading = refl
 
 -- ---- starts
@@ -164,5 +164,5 @@ reading = refl
 starts :
     map line ("start bytes" ∷ "start packets" ∷ "start Bytes" ∷ "start packet" ∷ "start 1" ∷ "starts bytes" ∷ []) ≡
     Ok (Some StartBytes) ∷ Ok (Some StartPackets) ∷ Err Measure ∷ Err Measure ∷ Err Measure ∷ Err UnknownCall ∷ []
-unfolding words_of said is_comment words_from is_blank up_to names name_in same call_of with_value start_of
+unfolding words_of said is_comment words_from is_blank up_to names look_up call_of with_value start_of measures
 starts = refl

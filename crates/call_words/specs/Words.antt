@@ -1,7 +1,8 @@
 -- A call list by words: the words of a line, what each may be, and the call that they make. Definitions only.
-use Rattle.std.specs.Prelude.{ℕ, ◌+◌, ◌-◌, ◌*◌, ◌^◌, Bool, true, false, if◌then◌else◌, not, ◌&&◌, ◌||◌, Option, Some, None, option_map, ok_or, Result, Ok, Err, List, [], ◌∷◌, length, pos, ◌==◌, nat_le, slice_index, to_bits}
+use Rattle.std.specs.Prelude.{◌≡◌, ℕ, ◌+◌, ◌-◌, ◌*◌, ◌^◌, Bool, true, false, if◌then◌else◌, not, ◌&&◌, ◌||◌, Option, Some, None, option_map, ok_or, Result, Ok, Err, List, [], ◌∷◌, length, pos, ◌==◌, nat_eq, nat_le, slice_index, to_bits}
 use Prim.Native.Char.{code}
 use Prim.Native.String.{String, [] as empty, ◌∷◌ as ◌then◌}
+use Rattle.std.specs.Cmp.Lexicographic.{pointwise}
 use Rattle.std.specs.Float.{binary64, inf}
 use Rattle.std.specs.Float.Ieee.{of_int}
 use Rattle.refusal.specs.Outcome.{and_then}
@@ -15,7 +16,7 @@ use Rattle.call_words.specs.declared.Valued.{Valued}
 use Rattle.call_words.specs.declared.Valued.TheVariants.{Estimate as Valued-as-Estimate, Acknowledged as Valued-as-Acknowledged}
 use Rattle.call_words.specs.declared.Valued.TheVariants.{Alr as Valued-as-Alr, Capacity as Valued-as-Capacity, Report as Valued-as-Report, Start as Valued-as-Start}
 use Rattle.call_words.specs.declared.Name.{Name}
-use Rattle.call_words.specs.declared.Name.TheVariants.{WithValue, Packet as Name-as-Packet, Read as Name-as-Read, Unknown}
+use Rattle.call_words.specs.declared.Name.TheVariants.{WithValue, Packet as Name-as-Packet, Read as Name-as-Read}
 
 -- ---- texts
 
@@ -24,11 +25,9 @@ abbrev pub ascii : String → List ℕ
 ascii empty = []
 ascii (c then s) = code c ∷ ascii s
 
-unfoldable pub same : List ℕ → List ℕ → Bool
-same [] [] = true
-same [] (b ∷ t) = false
-same (a ∷ s) [] = false
-same (a ∷ s) (b ∷ t) = a == b && same s t
+-- byte by byte, and as long
+abbrev pub same : List ℕ → List ℕ → Bool
+same s t = pointwise nat_eq s t
 
 -- the bytes before the first that is so
 unfoldable pub up_to : (ℕ → Bool) → List ℕ → List ℕ
@@ -39,6 +38,10 @@ up_to so (b ∷ s) = if so b then [] else (b ∷ up_to so s)
 unfoldable pub on_from : (ℕ → Bool) → List ℕ → List ℕ
 on_from so [] = []
 on_from so (b ∷ s) = if so b then (b ∷ s) else on_from so s
+
+-- what answers for a byte is what so says of it
+abbrev pub Answers : (ℕ → Bool → Type 0) → (ℕ → Bool) → Type 0
+Answers answers so = (b : ℕ) (r : Bool) → answers b r → r ≡ so b
 
 -- ---- words
 
@@ -62,9 +65,10 @@ words_from inside (b ∷ s) =
 abbrev pub words_in : List ℕ → List (List ℕ)
 words_in line = words_from false line
 
--- no bytes, where a line has no more words
-abbrev pub no_word : List ℕ
-no_word = []
+-- what stands beside a text in a table, at the first that is the same
+unfoldable pub look_up : {T : Type 0} → List (List ℕ × T) → List ℕ → Option T
+look_up [] word = None
+look_up (entry ∷ more) word = if same entry.0 word then Some entry.1 else look_up more word
 
 -- ---- values
 
@@ -134,10 +138,11 @@ unfoldable pub capacity_of : List ℕ → Result Call Why
 capacity_of word = if same word (ascii "none") then Ok CapacityNone else given CapacityIs Rate (rate_of word)
 
 -- "B being 0 for bytes and 1 for packets" (Q-7)
+unfoldable pub measures : List (List ℕ × Call)
+measures = (ascii "bytes", StartBytes) ∷ (ascii "packets", StartPackets) ∷ []
+
 unfoldable pub start_of : List ℕ → Result Call Why
-start_of word =
-    if same word (ascii "bytes") then Ok StartBytes
-    else (if same word (ascii "packets") then Ok StartPackets else Err Measure)
+start_of word = ok_or (look_up measures word) Measure
 
 unfoldable pub with_value : Valued → List ℕ → Result Call Why
 with_value Valued-as-Estimate word = given Estimate Rate (rate_of word)
@@ -147,10 +152,12 @@ with_value Valued-as-Capacity word = capacity_of word
 with_value Valued-as-Report word = given Report Rate (rate_of word)
 with_value Valued-as-Start word = start_of word
 
+unfoldable pub outcomes : List (List ℕ × ℕ)
+outcomes = (ascii "lost", 1) ∷ (ascii "arrived", 0) ∷ []
+
 unfoldable pub with_outcome : ℕ → ℕ → List ℕ → Result Call Why
 with_outcome time size word =
-    if same word (ascii "lost") then Ok (Packet time 1 size)
-    else (if same word (ascii "arrived") then Ok (Packet time 0 size) else Err Outcome)
+    and_then (ok_or (look_up outcomes word) Outcome) (λ lost. Ok (Packet time lost size))
 
 -- the first that is wrong, from left to right
 unfoldable pub packet_of : List ℕ → List ℕ → List ℕ → Result Call Why
@@ -169,12 +176,8 @@ names =
     ∷ (ascii "start", WithValue Valued-as-Start)
     ∷ []
 
-unfoldable pub name_in : List (List ℕ × Name) → List ℕ → Name
-name_in [] word = Unknown
-name_in (n ∷ more) word = if same word n.0 then n.1 else name_in more word
-
-abbrev pub name_of : List ℕ → Name
-name_of word = name_in names word
+abbrev pub name_of : List ℕ → Option Name
+name_of word = look_up names word
 
 -- a call by its name and the words after it
 unfoldable pub call_of : Name → List (List ℕ) → Result Call Why
@@ -188,7 +191,6 @@ call_of Name-as-Packet (a ∷ b ∷ []) = Err WordCount
 call_of Name-as-Packet (a ∷ b ∷ c ∷ d ∷ more) = Err WordCount
 call_of Name-as-Read [] = Ok Read
 call_of Name-as-Read (a ∷ more) = Err WordCount
-call_of Unknown words = Err UnknownCall
 
 -- "#"
 unfoldable pub is_comment : List ℕ → Bool
@@ -198,7 +200,8 @@ is_comment word = slice_index word 0 == 35
 unfoldable pub said : List (List ℕ) → Result (Option Call) Why
 said [] = Ok None
 said (first ∷ words) =
-    if is_comment first then Ok None else and_then (call_of (name_of first) words) (λ call. Ok (Some call))
+    if is_comment first then Ok None
+    else and_then (ok_or (name_of first) UnknownCall) (λ name. and_then (call_of name words) (λ call. Ok (Some call)))
 
 -- what a line says
 unfoldable pub words_of : List ℕ → Result (Option Call) Why

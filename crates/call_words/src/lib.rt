@@ -1,14 +1,15 @@
 // A call list by words: what a line of it says.
 #![tactic(auto)]
 
-ghost use Rattle.std.specs.Prelude.{◌≡◌, ◌+◌, ◌≤◌, length, drop, slice_index_or};
-ghost use Rattle.call_line.specs.Column.{more};
-ghost use Rattle.packets.specs.Summary.{largest_packet};
+ghost use Rattle.std.specs.Prelude.{◌≡◌, ℕ, ◌≤◌, Bool, [], ◌∷◌, length, map, MatchOption, ok_or};
+ghost use Rattle.std.specs.Iterator.{at_most};
 ghost use Rattle.call_words.specs.Words as W;
 ghost use Rattle.call_words.specs.Steps.{bounded_nanos};
+ghost use Rattle.call_words.specs.declared.Why.{Why};
 
 use call_line::Call;
 use packets::PacketSize;
+use std::fmt;
 
 // The largest whole rate, 10^15 bit/s: each up to 2^53 is a float.
 const MOST_RATE: u64 = 1_000_000_000_000_000;
@@ -34,6 +35,30 @@ pub enum Why {
     Measure,
 }
 
+impl fmt::Display for Why {
+    fn fmt<W: fmt::Write>(&self, f: &mut fmt::Formatter<W>) -> fmt::Result {
+        f.write_str(match self {
+            Why::UnknownCall => {
+                "there is no such call: estimate, acknowledged, alr, capacity, packet, report, read or start"
+            }
+            Why::WordCount => {
+                "the wrong number of words: a rate follows, or SECONDS (alr), or SECONDS BYTES lost or arrived (packet), or bytes or packets (start), or nothing (read)"
+            }
+            Why::Rate => {
+                "a wrong rate: whole bit/s, at most 1000000000000000, without leading zeros, or inf; a capacity may be none"
+            }
+            Why::Time => {
+                "a wrong time: seconds, at most 4000000000, without leading zeros, whole or with one to nine digits after a point; alr may be off"
+            }
+            Why::Size => "a wrong size: whole bytes, at most 9999999, without leading zeros",
+            Why::Outcome => {
+                "a packet that is neither lost nor arrived: its last word is one of the two"
+            }
+            Why::Measure => "a start by neither bytes nor packets: its last word is one of the two",
+        })
+    }
+}
+
 // The calls with one value
 #[derive(Clone, Copy)]
 enum Valued {
@@ -50,201 +75,112 @@ enum Name {
     WithValue(Valued),
     Packet,
     Read,
-    Unknown,
 }
+
+const NAMES: [(&[u8], Name); 8] = [
+    (b"estimate", Name::WithValue(Valued::Estimate)),
+    (b"acknowledged", Name::WithValue(Valued::Acknowledged)),
+    (b"alr", Name::WithValue(Valued::Alr)),
+    (b"capacity", Name::WithValue(Valued::Capacity)),
+    (b"packet", Name::Packet),
+    (b"report", Name::WithValue(Valued::Report)),
+    (b"read", Name::Read),
+    (b"start", Name::WithValue(Valued::Start)),
+];
+
+// What the ratio of the controller that is started counts
+const MEASURES: [(&[u8], Call); 2] = [
+    (b"bytes", Call::StartBytes),
+    (b"packets", Call::StartPackets),
+];
+
+// Whether the packet is lost
+const OUTCOMES: [(&[u8], u8); 2] = [(b"lost", 1), (b"arrived", 0)];
 
 // ---- words
 
 // A space, a tab or a CR
+#[tactic(auto, unfolding(crate::specs::Words::is_blank))]
 fn is_blank(byte: u8) -> bool
     ensures { result ≡ W.is_blank byte }
 {
-    if byte == b' ' {
-        return true;
-    }
-    if byte == b'\t' {
-        return true;
-    }
-    byte == b'\r'
+    matches!(byte, b' ' | b'\t' | b'\r')
 }
 
-// Where the next word starts, or the line's end.
-fn word_start(line: &[u8], from: usize) -> usize
-    requires { from ≤ length line.now }
-    ensures { result ≡ from + length (W.up_to W.is_other (drop from line.now)) }
+// The bytes before the first that is so, and those from it on.
+fn cut<P: Fn(u8) -> bool>(bytes: &[u8], so: P) -> (&[u8], &[u8])
+    requires { P.IsAlwaysCallable so }
+    ensures { (p : ℕ → Bool) → W.Answers (P.post so) p → (result.0.now ≡ W.up_to p bytes.now) × (result.1.now ≡ W.on_from p bytes.now) }
 {
-    let mut i = from;
-    while i < line.len() {
-        if !is_blank(line[i]) {
-            return i;
+    let place = bytes
+        .iter()
+        .position(|byte| so(*byte))
+        .unwrap_or(bytes.len());
+    bytes.split_at(place)
+}
+
+// The words of a line that are still to come
+#[derive(Drop)]
+struct Words<'a> {
+    rest: &'a [u8],
+}
+
+impl<'a> Iterator for Words<'a> {
+    type Item = &'a [u8];
+
+    ghost next_gives = { λ s word t. MatchOption word (W.words_in s.rest.now ≡ []) (λ w. W.words_in s.rest.now ≡ w.now ∷ W.words_in t.rest.now) };
+
+    ghost remaining = { λ s. at_most (length (W.words_in s.rest.now)) };
+
+    fn next(&mut self) -> Option<&'a [u8]> {
+        let (_blanks, line) = cut(self.rest, |byte| !is_blank(byte));
+        if line.is_empty() {
+            return None;
         }
-        i += 1;
+        let (word, rest) = cut(line, is_blank);
+        self.rest = rest;
+        Some(word)
     }
-    i
 }
 
-// Where the word ends that starts there.
-fn word_end(line: &[u8], from: usize) -> usize
-    requires { from ≤ length line.now }
-    ensures { result ≡ from + length (W.up_to W.is_blank (drop from line.now)) }
+// What stands beside the word in a table.
+fn look_up<T: Copy>(table: &[(&[u8], T)], word: &[u8]) -> Option<T>
+    ensures { result ≡ W.look_up (map (λ entry. (entry.0.now, entry.1)) table.now) word.now }
 {
-    let mut i = from;
-    while i < line.len() {
-        if is_blank(line[i]) {
-            return i;
+    for entry in table {
+        if entry.0 == word {
+            return Some(entry.1);
         }
-        i += 1;
     }
-    i
-}
-
-fn count_words(line: &[u8]) -> usize
-    ensures { result ≡ length (W.words_in line.now) }
-{
-    let mut count = 0;
-    let mut from = word_start(line, 0);
-    while from < line.len() {
-        count += 1;
-        let end = word_end(line, from);
-        from = word_start(line, end);
-    }
-    count
-}
-
-// The word number k, from 0 on; no bytes where the line has no more.
-fn word(line: &[u8], k: usize) -> &[u8]
-    ensures { result.now ≡ slice_index_or (W.words_in line.now) k W.no_word }
-{
-    let mut from = word_start(line, 0);
-    let mut i = 0;
-    while i < k {
-        let end = word_end(line, from);
-        from = word_start(line, end);
-        i += 1;
-    }
-    let end = word_end(line, from);
-    &line[from..end]
-}
-
-fn is_word(word: &[u8], text: &[u8]) -> bool
-    ensures { result ≡ W.same word.now text.now }
-{
-    if word.len() != text.len() {
-        return false;
-    }
-    let mut i = 0;
-    while i < word.len() {
-        if word[i] != text[i] {
-            return false;
-        }
-        i += 1;
-    }
-    true
-}
-
-fn is_comment(word: &[u8]) -> bool
-    ensures { result ≡ W.is_comment word.now }
-{
-    if word.len() == 0 {
-        return false;
-    }
-    word[0] == b'#'
-}
-
-#[tactic(auto, unfolding(crate::specs::Words::names, crate::specs::Words::name_in))]
-fn name_of(word: &[u8]) -> Name
-    ensures { result ≡ W.name_of word.now }
-{
-    if is_word(word, b"estimate") {
-        return Name::WithValue(Valued::Estimate);
-    }
-    if is_word(word, b"acknowledged") {
-        return Name::WithValue(Valued::Acknowledged);
-    }
-    if is_word(word, b"alr") {
-        return Name::WithValue(Valued::Alr);
-    }
-    if is_word(word, b"capacity") {
-        return Name::WithValue(Valued::Capacity);
-    }
-    if is_word(word, b"packet") {
-        return Name::Packet;
-    }
-    if is_word(word, b"report") {
-        return Name::WithValue(Valued::Report);
-    }
-    if is_word(word, b"read") {
-        return Name::Read;
-    }
-    if is_word(word, b"start") {
-        return Name::WithValue(Valued::Start);
-    }
-    Name::Unknown
+    None
 }
 
 // ---- values
-
-// The bits of a rate's float.
-#[tactic(auto, unfolding(crate::specs::Words::rate_of, crate::specs::Words::bits_of))]
-fn read_rate(word: &[u8]) -> Option<u64>
-    ensures { result ≡ W.rate_of word.now }
-{
-    if is_word(word, b"inf") {
-        return Some(float::to_bits(f64::INFINITY));
-    }
-    let rate = at_most(MOST_RATE, call_line::read_number(word))?;
-    let bps = std::num::nearest_u64_to_f64(rate);
-    Some(float::to_bits(bps))
-}
 
 #[tactic(auto, unfolding(crate::specs::Words::at_most))]
 fn at_most(most: u64, number: Option<u64>) -> Option<u64>
     ensures { result ≡ W.at_most most number }
 {
-    let n = number?;
-    if n > most {
-        return None;
+    number.filter(|n| *n <= most)
+}
+
+// The bits of a rate's float.
+#[tactic(auto, unfolding(crate::specs::Words::rate_of, crate::specs::Words::bits_of))]
+fn read_rate(word: &[u8]) -> Result<u64, Why>
+    ensures { result ≡ ok_or (W.rate_of word.now) Why.Rate }
+{
+    if word == b"inf".as_slice() {
+        return Ok(float::to_bits(f64::INFINITY));
     }
-    Some(n)
+    let rate = at_most(MOST_RATE, call_line::read_number(word)).ok_or(Why::Rate)?;
+    Ok(float::to_bits(std::num::nearest_u64_to_f64(rate)))
 }
 
 #[tactic(auto, unfolding(crate::specs::Words::size_of))]
-fn read_size(word: &[u8]) -> Option<u64>
-    ensures { result ≡ W.size_of word.now }
+fn read_size(word: &[u8]) -> Result<u64, Why>
+    ensures { result ≡ ok_or (W.size_of word.now) Why.Size }
 {
-    at_most(packets::LARGEST_PACKET, call_line::read_number(word))
-}
-
-// Where the point of a time is, or the word's end.
-fn point(word: &[u8]) -> usize
-    ensures { result ≡ length (W.up_to W.is_point word.now) }
-{
-    let mut i = 0;
-    while i < word.len() {
-        if word[i] == b'.' {
-            return i;
-        }
-        i += 1;
-    }
-    i
-}
-
-// The number in digits that may begin with zeros.
-fn read_digits(digits: &[u8]) -> Option<u64>
-    requires { length digits.now ≤ 9 }
-    ensures { result ≡ more 0 digits.now }
-{
-    let mut value: u64 = 0;
-    let mut i = 0;
-    while i < digits.len() {
-        let byte = digits[i];
-        i += 1;
-        if !call_line::is_digit(byte) {
-            return None;
-        }
-        value = value * 10 + (byte - b'0') as u64;
-    }
-    Some(value)
+    at_most(packets::LARGEST_PACKET, call_line::read_number(word)).ok_or(Why::Size)
 }
 
 // What one unit in the last of so many places after the point is in ns.
@@ -252,182 +188,100 @@ fn unit(places: usize) -> u64
     requires { places ≤ 9 }
     ensures { result ≡ W.unit_of places }
 {
-    let mut nanos: u64 = 1;
-    let mut i = places;
-    while i < MOST_PLACES {
-        nanos *= 10;
-        i += 1;
-    }
-    nanos
+    10u64.pow((MOST_PLACES - places) as u32)
 }
 
-// The ns of the digits after a point.
-#[tactic(auto, unfolding(crate::specs::Words::places_of, crate::specs::Words::times))]
-fn read_fraction(digits: &[u8]) -> Option<u64>
-    ensures { result ≡ W.places_of digits.now }
+// The ns of a point and the digits after it, which may begin with zeros.
+#[tactic(auto, unfolding(crate::specs::Words::fraction_of, crate::specs::Words::places_of, crate::specs::Words::times))]
+fn read_fraction(fraction: &[u8]) -> Option<u64>
+    ensures { result ≡ W.fraction_of fraction.now }
 {
-    if digits.len() == 0 || digits.len() > MOST_PLACES {
+    let Some((_point, digits)) = fraction.split_first() else {
+        return Some(0);
+    };
+    if digits.is_empty() || digits.len() > MOST_PLACES {
         return None;
     }
-    let value = read_digits(digits)?;
+    let value = call_line::digits_value(digits)?;
     Some(value * unit(digits.len()))
 }
 
 // The ns of a time in seconds.
-#[tactic(auto, using(crate::proofs::Numbers::before_length, crate::proofs::Numbers::point_within, crate::proofs::Numbers::seconds_parts, crate::proofs::Numbers::no_fraction, crate::proofs::Numbers::some_fraction, crate::proofs::Numbers::at_most_lem, crate::proofs::Numbers::fraction_fits), unfolding(crate::specs::Words::plus, crate::specs::Words::times))]
 fn read_seconds(word: &[u8]) -> Option<u64>
     ensures { result ≡ bounded_nanos word.now }
 {
-    let point = point(word);
-    let seconds = at_most(MOST_SECONDS, call_line::read_number(&word[..point]))?;
-    if point == word.len() {
-        return Some(seconds * NANOS);
-    }
-    let nanos = read_fraction(&word[point + 1..])?;
+    let (seconds, fraction) = cut(word, |byte| byte == b'.');
+    let seconds = at_most(MOST_SECONDS, call_line::read_number(seconds))?;
+    let nanos = read_fraction(fraction)?;
     Some(seconds * NANOS + nanos)
 }
 
 // The ns of a time that a call may have.
 #[tactic(auto, using(crate::proofs::Numbers::bounded))]
-fn read_time(word: &[u8]) -> Option<u64>
-    ensures { result ≡ W.time_of word.now }
+fn read_time(word: &[u8]) -> Result<u64, Why>
+    ensures { result ≡ ok_or (W.time_of word.now) Why.Time }
 {
-    at_most(packets::LATEST_TIME, read_seconds(word))
+    at_most(packets::LATEST_TIME, read_seconds(word)).ok_or(Why::Time)
 }
 
 // ---- calls
 
-#[tactic(auto, unfolding(crate::specs::Words::alr_of, crate::specs::Words::given))]
-fn alr(value: &[u8]) -> Result<Call, Why>
-    ensures { result ≡ W.alr_of value.now }
-{
-    if is_word(value, b"off") {
-        return Ok(Call::AlrOff);
-    }
-    let start = read_time(value).ok_or(Why::Time)?;
-    Ok(Call::AlrOn(start))
-}
-
-#[tactic(auto, unfolding(crate::specs::Words::capacity_of, crate::specs::Words::given))]
-fn capacity(value: &[u8]) -> Result<Call, Why>
-    ensures { result ≡ W.capacity_of value.now }
-{
-    if is_word(value, b"none") {
-        return Ok(Call::CapacityNone);
-    }
-    let bits = read_rate(value).ok_or(Why::Rate)?;
-    Ok(Call::CapacityIs(bits))
-}
-
-// What the ratio of the controller that is started counts.
-#[tactic(auto, unfolding(crate::specs::Words::start_of))]
-fn start(value: &[u8]) -> Result<Call, Why>
-    ensures { result ≡ W.start_of value.now }
-{
-    if is_word(value, b"bytes") {
-        return Ok(Call::StartBytes);
-    }
-    if is_word(value, b"packets") {
-        return Ok(Call::StartPackets);
-    }
-    Err(Why::Measure)
-}
-
-#[tactic(auto, unfolding(crate::specs::Words::with_value, crate::specs::Words::given))]
+#[tactic(auto, unfolding(crate::specs::Words::with_value, crate::specs::Words::alr_of, crate::specs::Words::capacity_of, crate::specs::Words::start_of, crate::specs::Words::measures, crate::specs::Words::given))]
 fn with_value(name: Valued, value: &[u8]) -> Result<Call, Why>
     ensures { result ≡ W.with_value name value.now }
 {
     match name {
-        Valued::Estimate => {
-            let bits = read_rate(value).ok_or(Why::Rate)?;
-            Ok(Call::Estimate(bits))
-        }
-        Valued::Acknowledged => {
-            let bits = read_rate(value).ok_or(Why::Rate)?;
-            Ok(Call::Acknowledged(bits))
-        }
-        Valued::Alr => alr(value),
-        Valued::Capacity => capacity(value),
-        Valued::Report => {
-            let bits = read_rate(value).ok_or(Why::Rate)?;
-            Ok(Call::Report(bits))
-        }
-        Valued::Start => start(value),
+        Valued::Estimate => Ok(Call::Estimate(read_rate(value)?)),
+        Valued::Acknowledged => Ok(Call::Acknowledged(read_rate(value)?)),
+        Valued::Alr if value == b"off".as_slice() => Ok(Call::AlrOff),
+        Valued::Alr => Ok(Call::AlrOn(read_time(value)?)),
+        Valued::Capacity if value == b"none".as_slice() => Ok(Call::CapacityNone),
+        Valued::Capacity => Ok(Call::CapacityIs(read_rate(value)?)),
+        Valued::Report => Ok(Call::Report(read_rate(value)?)),
+        Valued::Start => look_up(&MEASURES, value).ok_or(Why::Measure),
     }
 }
 
-#[tactic(auto, unfolding(crate::specs::Words::with_outcome))]
-fn with_outcome(time: u64, size: u64, outcome: &[u8]) -> Result<Call, Why>
-    requires { size ≤ largest_packet }
-    ensures { result ≡ W.with_outcome time size outcome.now }
-{
-    let size = size as PacketSize;
-    if is_word(outcome, b"lost") {
-        return Ok(Call::Packet {
-            time,
-            lost: 1,
-            size,
-        });
-    }
-    if is_word(outcome, b"arrived") {
-        return Ok(Call::Packet {
-            time,
-            lost: 0,
-            size,
-        });
-    }
-    Err(Why::Outcome)
-}
-
-#[tactic(auto, using(crate::proofs::Numbers::size_fits), unfolding(crate::specs::Words::packet_of))]
+#[tactic(auto, using(crate::proofs::Numbers::size_fits), unfolding(crate::specs::Words::packet_of, crate::specs::Words::with_outcome, crate::specs::Words::outcomes))]
 fn packet(time: &[u8], size: &[u8], outcome: &[u8]) -> Result<Call, Why>
     ensures { result ≡ W.packet_of time.now size.now outcome.now }
 {
-    let time = read_time(time).ok_or(Why::Time)?;
-    let size = read_size(size).ok_or(Why::Size)?;
-    with_outcome(time, size, outcome)
+    let time = read_time(time)?;
+    let size = read_size(size)? as PacketSize;
+    let lost = look_up(&OUTCOMES, outcome).ok_or(Why::Outcome)?;
+    Ok(Call::Packet { time, lost, size })
 }
 
-// The number of words comes before what they say.
-fn call_of(name: Name, line: &[u8]) -> Result<Call, Why>
-    ensures { result ≡ W.call_of name (drop 1 (W.words_in line.now)) }
+// The number of words comes before what they say. A word more than a call has is looked for, so that
+// too many are seen.
+#[tactic(auto, unfolding(crate::specs::Words::call_of))]
+fn call_of(name: Name, mut words: Words) -> Result<Call, Why>
+    ensures { result ≡ W.call_of name (W.words_in words.entry.rest.now) }
 {
-    let count = count_words(line);
-    match name {
-        Name::WithValue(valued) => {
-            if count != 2 {
-                return Err(Why::WordCount);
-            }
-            with_value(valued, word(line, 1))
-        }
-        Name::Packet => {
-            if count != 4 {
-                return Err(Why::WordCount);
-            }
-            packet(word(line, 1), word(line, 2), word(line, 3))
-        }
-        Name::Read => {
-            if count > 1 {
-                return Err(Why::WordCount);
-            }
-            Ok(Call::Read)
-        }
-        Name::Unknown => Err(Why::UnknownCall),
+    let values = [words.next(), words.next(), words.next(), words.next()];
+    match (name, values) {
+        (Name::WithValue(name), [Some(value), None, ..]) => with_value(name, value),
+        (Name::Packet, [Some(time), Some(size), Some(outcome), None]) => packet(
+            time, size, outcome,
+        ),
+        (Name::Read, [None, ..]) => Ok(Call::Read),
+        _ => Err(Why::WordCount),
     }
 }
 
 // What a line says, its newline left out: nothing where it has no words, or a comment.
-#[tactic(auto, using(crate::proofs::Saying::nothing, crate::proofs::Saying::comment, crate::proofs::Saying::named), unfolding(crate::specs::Words::words_of))]
+#[tactic(auto, unfolding(crate::specs::Words::words_of, crate::specs::Words::said, crate::specs::Words::is_comment, crate::specs::Words::names))]
 pub fn read_words(line: &[u8]) -> Result<Option<Call>, Why>
     ensures { result ≡ W.words_of line.now }
 {
-    if count_words(line) == 0 {
+    let mut words = Words { rest: line };
+    let Some(first) = words.next() else {
+        return Ok(None);
+    };
+    if first.starts_with(b"#") {
         return Ok(None);
     }
-    let first = word(line, 0);
-    if is_comment(first) {
-        return Ok(None);
-    }
-    let call = call_of(name_of(first), line)?;
+    let name = look_up(&NAMES, first).ok_or(Why::UnknownCall)?;
+    let call = call_of(name, words)?;
     Ok(Some(call))
 }

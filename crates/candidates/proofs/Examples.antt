@@ -1,6 +1,7 @@
 -- Worked examples of the definitions in specs/, by bit patterns, which antt computes; the answers are those of the Rust's expressions.
 -- They test the definitions; no proof cites them.
 use Rattle.std.specs.Prelude.{ℕ, ◌≡◌, refl, Bool, true, false, List, [], ◌∷◌, map, Some, None, Ok, Err, Float}
+use Rattle.std.specs.Bool.{then_some}
 use Rattle.std.specs.Float.{inf}
 use Rattle.std.specs.Float.Ieee.{add, div, eq, is_nan, le, lt, mul, of_bits, of_int, sub, to_bits}
 use Rattle.refusal.specs.declared.Refusal.TheVariants.{NoLogarithm}
@@ -21,9 +22,9 @@ use Rattle.likelihood.specs.Feasible.{feasible, upper_bound as upper_bound_of_lo
 use Rattle.likelihood.specs.Newton.{derivatives, newton, safe}
 use Rattle.likelihood.specs.Objective.{objective}
 use Rattle.likelihood.specs.declared.ChannelParameters.{ChannelParameters}
-use Rattle.candidates.specs.Bound.{at_most, capacity, in_window, acceleration, upper_bound}
-use Rattle.candidates.specs.Candidate.{above, bandwidths, cut, placed, scaled}
-use Rattle.candidates.specs.Choice.{better, choice, judged, start, used}
+use Rattle.candidates.specs.Bound.{at_most, capacity, within, in_window, acceleration, upper_bound}
+use Rattle.candidates.specs.Candidate.{above, bandwidths, cut, scaled}
+use Rattle.candidates.specs.Choice.{better, choice, judged, start}
 
 -- ---- rates, in Mbit/s
 
@@ -60,8 +61,7 @@ bound limited delay acknowledged last reduced =
     upper_bound
     (record {
       capacity = infinite;
-      is_limited = limited;
-      bandwidth_limit_in_current_window = one_and_half;
+      bandwidth_limit_in_current_window = then_some limited one_and_half;
       instant_upper_bound = three;
       delay_based_estimate = delay;
       acknowledged_bitrate = acknowledged;
@@ -74,14 +74,14 @@ bounds_without_acknowledged :
     bound true two infinite (Exact 0) (Exact 0) ≡ one_and_half
     × bound false two infinite (Exact 0) (Exact 0) ≡ two
     × bound false infinite infinite (Exact 0) (Exact 0) ≡ three
-unfolding bound upper_bound in_window at_most smaller minimum is_nan lt of_bits
+unfolding bound upper_bound within in_window at_most smaller minimum is_nan lt of_bits
 bounds_without_acknowledged = (refl, refl, refl)
 
 -- 1 acknowledged, and a send time before the reduction, which counts as 0 s after it; never reduced
 bounds_with_acknowledged :
     bound false two one (Exact 10000000007) (Exact 20000000000) ≡ two
     × bound false two one (Exact 10000000007) DistantPast ≡ two
-unfolding bound upper_bound in_window acceleration at_most limited plus smaller times seconds Delta.difference Delta.in_seconds Delta.order
+unfolding bound upper_bound within in_window acceleration at_most limited plus smaller times seconds Delta.difference Delta.in_seconds Delta.order
     Time.since minimum add div is_nan lt mul of_bits of_int
 bounds_with_acknowledged = (refl, refl)
 
@@ -167,12 +167,12 @@ first_examples = refl
 
 -- a candidate at -1 bit/s, whose objective is refused, after one that was better
 refused_example :
-    choice true (parameters three) (placed (parameters one) (parameters one ∷ parameters (rate (bits 0xBFF0000000000000)) ∷ [])) [] (bits 0) ≡ Err NoLogarithm
-unfolding choice better judged placed used newton derivatives safe sign_bit feasible upper_bound_of_loss objective bias adjusted logarithm magnitude maximum minimum add div
+    choice true (parameters three) (parameters one ∷ parameters (rate (bits 0xBFF0000000000000)) ∷ []) [] (bits 0) ≡ Err NoLogarithm
+unfolding choice better judged newton derivatives safe sign_bit feasible upper_bound_of_loss objective bias adjusted logarithm magnitude maximum minimum add div
     eq is_nan le lt mul of_bits of_int sub to_bits
 refused_example = refl
 
 -- no candidate
-none_example : choice true (parameters three) (placed (parameters one) []) [] (bits 0) ≡ Ok (parameters three)
-unfolding choice placed used
+none_example : choice true (parameters three) [] [] (bits 0) ≡ Ok (parameters three)
+unfolding choice
 none_example = refl

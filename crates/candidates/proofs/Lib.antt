@@ -1,4 +1,3 @@
 pub mod Offered
 pub mod Chosen
-mod Places
 mod Examples

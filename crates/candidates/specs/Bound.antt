@@ -23,10 +23,12 @@ capacity true None = max_bitrate
 capacity false c = max_bitrate
 
 -- while loss limits the rate, the limit in the current window too
+unfoldable pub within : Option Bitrate → Bitrate → Bitrate
+within (Some limit) bound = if finite limit.bps then smaller limit bound else bound
+within None bound = bound
+
 unfoldable pub in_window : Bounds → Bitrate
-in_window b =
-    let limit = b.bandwidth_limit_in_current_window in
-    if b.is_limited && finite limit.bps then smaller limit b.capacity else b.capacity
+in_window b = within b.bandwidth_limit_in_current_window b.capacity
 
 -- 60.0 × the seconds since the estimate was reduced, at most 60.0 of them, / 60.0 (rampup_acceleration)
 unfoldable pub acceleration : TimeDelta → Float

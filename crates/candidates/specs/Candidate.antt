@@ -1,5 +1,5 @@
 -- The candidates, at most six ("One report, in order", 3). Definitions only.
-use Rattle.std.specs.Prelude.{Bool, if◌then◌else◌, ◌&&◌, List, [], ◌∷◌, ◌++◌, map, length, replicate, take, Float}
+use Rattle.std.specs.Prelude.{Bool, if◌then◌else◌, ◌&&◌, List, [], ◌∷◌, ◌++◌, map, Float}
 use Rattle.std.specs.Float.Ieee.{lt}
 use Rattle.std.specs.Float.Ieee.Scale.{finite}
 use Rattle.bandwidth.specs.Rate.{rate, smaller, larger, limited, times}
@@ -9,7 +9,6 @@ use Rattle.likelihood.specs.Feasible.{feasible}
 use Rattle.likelihood.specs.declared.ChannelParameters.{ChannelParameters}
 use Rattle.candidates.specs.Bound.{upper_bound}
 use Rattle.candidates.specs.declared.Bounds.{Bounds}
-use Rattle.candidates.specs.declared.Candidates.{Candidates}
 
 -- ---- their rates
 
@@ -47,16 +46,9 @@ candidate current bound bandwidth =
     let c = record current { loss_limited_bandwidth = cut current.loss_limited_bandwidth bound bandwidth } in
     record c { inherent_loss = feasible c }
 
--- ---- six places
-
--- the places past the count hold the current parameters
-unfoldable pub placed : ChannelParameters → List ChannelParameters → Candidates
-placed current l = record { places = take 6 (l ++ replicate 6 current); count = length l }
-
 -- get_candidates
-unfoldable pub candidates : ChannelParameters → Bounds → Candidates
+unfoldable pub candidates : ChannelParameters → Bounds → List ChannelParameters
 candidates current b =
-    placed current
-    (map
+    map
     (candidate current (upper_bound b))
-    (bandwidths current.loss_limited_bandwidth b.delay_based_estimate b.acknowledged_bitrate))
+    (bandwidths current.loss_limited_bandwidth b.delay_based_estimate b.acknowledged_bitrate)

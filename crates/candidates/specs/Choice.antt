@@ -1,5 +1,5 @@
 -- The choice among the candidates ("One report, in order", 4). Definitions only.
-use Rattle.std.specs.Prelude.{ℕ, Bool, if◌then◌else◌, ltb, List, take, Float, Result, Ok}
+use Rattle.std.specs.Prelude.{Bool, if◌then◌else◌, List, Float, Result, Ok}
 use Rattle.std.specs.Float.Ieee.{lt}
 use Rattle.refusal.specs.Outcome.{and_then, try_fold}
 use Rattle.refusal.specs.declared.Refusal.{Refusal}
@@ -8,7 +8,6 @@ use Rattle.likelihood.specs.Newton.{newton}
 use Rattle.likelihood.specs.Objective.{objective}
 use Rattle.likelihood.specs.declared.ChannelParameters.{ChannelParameters}
 use Rattle.likelihood.specs.declared.Row.{Row}
-use Rattle.candidates.specs.declared.Candidates.{Candidates}
 
 -- the greatest objective so far, and its candidate
 pub record Best : Type 0 where
@@ -29,12 +28,8 @@ better use_bytes rows ratio b p =
     let stepped = newton rows p in
     and_then (objective use_bytes rows ratio stepped) (λ o. Ok (judged b stepped o))
 
--- a count above six counts as six
-unfoldable pub used : ℕ → ℕ
-used count = if ltb count 6 then count else 6
-
--- the candidates in use, in order, until an objective is refused (update_bandwidth_estimate)
-unfoldable pub choice : Bool → ChannelParameters → Candidates → List Row → Float → Result ChannelParameters Refusal
-choice use_bytes current c rows ratio =
-    and_then (try_fold (better use_bytes rows ratio) (start current) (take (used c.count) c.places)) (λ b.
+-- the candidates in order, until an objective is refused (update_bandwidth_estimate)
+unfoldable pub choice : Bool → ChannelParameters → List ChannelParameters → List Row → Float → Result ChannelParameters Refusal
+choice use_bytes current candidates rows ratio =
+    and_then (try_fold (better use_bytes rows ratio) (start current) candidates) (λ b.
     Ok b.best_candidate)

@@ -1,4 +1,3 @@
 pub mod Bound
 pub mod Candidate
 pub mod Choice
-pub mod Pushed

@@ -1,13 +1,13 @@
 // The candidates for the estimate: their upper bound, the at most six of them, and the choice among
-// them (src/bwe/loss_controller.rs).
+// them (src/bwe/loss_controller.rs). They stand in a vector that allocates nothing.
 #![tactic(auto)]
 
 ghost use Rattle.std.specs.Prelude.{◌≡◌};
 ghost use Rattle.candidates.specs.Bound as Bound;
 ghost use Rattle.candidates.specs.Candidate as Candidate;
 ghost use Rattle.candidates.specs.Choice as Choice;
-ghost use Rattle.candidates.specs.Pushed as Pushed;
 
+use arrayvec::ArrayVec;
 use bandwidth::Bitrate;
 use likelihood::{ChannelParameters, Row};
 use refusal::Refusal;
@@ -18,9 +18,8 @@ use time::{TimeDelta, Timestamp};
 pub struct Bounds {
     // link_capacity_bound: infinite outside ALR
     pub capacity: Bitrate,
-    // is_bandwidth_limited_due_to_loss
-    pub is_limited: bool,
-    pub bandwidth_limit_in_current_window: Bitrate,
+    // None unless is_bandwidth_limited_due_to_loss
+    pub bandwidth_limit_in_current_window: Option<Bitrate>,
     // get_instant_upper_bound
     pub instant_upper_bound: Bitrate,
     pub delay_based_estimate: Bitrate,
@@ -28,13 +27,6 @@ pub struct Bounds {
     // last_send_time_most_recent_observation
     pub last_send_time: Timestamp,
     pub last_time_estimate_reduced: Timestamp,
-}
-
-// Six places, of which the first `count` are in use.
-#[derive(Clone, Copy)]
-pub struct Candidates {
-    pub places: [ChannelParameters; 6],
-    pub count: u64,
 }
 
 // ---- the upper bound
@@ -63,18 +55,18 @@ fn min_of_valid(upper_bound: Bitrate, limit: Bitrate) -> Bitrate
 }
 
 // The Rust asks also whether the largest ramp-up factor is above zero, which it is.
-#[tactic(auto, unfolding(crate::specs::Bound::upper_bound, crate::specs::Bound::in_window, crate::specs::Bound::at_most, crate::specs::Bound::acceleration))]
+#[tactic(auto, unfolding(crate::specs::Bound::upper_bound, crate::specs::Bound::in_window, crate::specs::Bound::within, crate::specs::Bound::acceleration))]
 pub fn get_candidate_bandwidth_upper_bound(bounds: Bounds) -> Bitrate
     ensures { result ≡ Bound.upper_bound bounds }
 {
     let mut upper_bound = bounds.capacity;
-    if bounds.is_limited && bounds.bandwidth_limit_in_current_window.is_valid() {
-        upper_bound = bounds.bandwidth_limit_in_current_window.min(upper_bound);
+    if let Some(limit) = bounds.bandwidth_limit_in_current_window
+        && limit.is_valid()
+    {
+        upper_bound = limit.min(upper_bound);
     }
     upper_bound = bounds.instant_upper_bound.min(upper_bound);
-    if bounds.delay_based_estimate.is_valid() {
-        upper_bound = upper_bound.min(bounds.delay_based_estimate);
-    }
+    upper_bound = min_of_valid(upper_bound, bounds.delay_based_estimate);
     if bounds.acknowledged_bitrate.is_valid()
         && bounds.last_send_time.is_exact()
         && bounds.last_time_estimate_reduced.is_exact()
@@ -94,28 +86,34 @@ pub fn get_candidate_bandwidth_upper_bound(bounds: Bounds) -> Bitrate
 
 // ---- the candidates
 
-#[tactic(auto, using(crate::proofs::Places::pushed_are_placed), unfolding(crate::specs::Candidate::candidates, crate::specs::Candidate::bandwidths))]
-pub fn get_candidates(current: ChannelParameters, bounds: Bounds) -> Candidates
-    ensures { result ≡ Candidate.candidates current bounds }
+#[tactic(auto, using(std::proofs::lemmas::List::map_more), unfolding(crate::specs::Candidate::candidates, crate::specs::Candidate::bandwidths))]
+pub fn get_candidates(current: ChannelParameters, bounds: Bounds) -> ArrayVec<ChannelParameters, 6>
+    ensures { result.items ≡ Candidate.candidates current bounds }
 {
     let rate = current.loss_limited_bandwidth;
     let delay = bounds.delay_based_estimate;
     let acknowledged = bounds.acknowledged_bitrate;
     let bound = get_candidate_bandwidth_upper_bound(bounds);
-    let up = candidate(current, bound, scaled(config::CANDIDATE_FACTOR_UP, rate));
-    let same = candidate(current, bound, scaled(config::CANDIDATE_FACTOR_SAME, rate));
-    let down = candidate(current, bound, scaled(config::CANDIDATE_FACTOR_DOWN, rate));
-    let candidates = Candidates {
-        places: [up, same, down, current, current, current],
-        count: 3,
-    };
     let above = is_above(delay, rate);
-    let factor = config::BANDWIDTH_BACKOFF_LOWER_BOUND_FACTOR;
-    let candidates = candidates.push_if(above, candidate(current, bound, delay));
-    let fifth = candidate(current, bound, acknowledged * factor);
-    let candidates = candidates.push_if(acknowledged.is_valid(), fifth);
-    let sixth = candidate(current, bound, delay * factor);
-    candidates.push_if(above, sixth)
+    let backoff = config::BANDWIDTH_BACKOFF_LOWER_BOUND_FACTOR;
+    let mut candidates = ArrayVec::new();
+    for factor in [
+        config::CANDIDATE_FACTOR_UP,
+        config::CANDIDATE_FACTOR_SAME,
+        config::CANDIDATE_FACTOR_DOWN,
+    ] {
+        candidates.push(candidate(current, bound, scaled(factor, rate)));
+    }
+    if above {
+        candidates.push(candidate(current, bound, delay));
+    }
+    if acknowledged.is_valid() {
+        candidates.push(candidate(current, bound, acknowledged * backoff));
+    }
+    if above {
+        candidates.push(candidate(current, bound, delay * backoff));
+    }
+    candidates
 }
 
 // factor * current: the factor is the first operand.
@@ -152,40 +150,23 @@ fn candidate(
     candidate
 }
 
-impl Candidates {
-    // One more, if it is wanted and there is a place for it.
-    #[tactic(auto, using(std::proofs::lemmas::Bool::Decides::nat_tests), unfolding(crate::specs::Pushed::pushed))]
-    fn push_if(self, wanted: bool, candidate: ChannelParameters) -> Candidates
-        ensures { result ≡ Pushed.pushed self wanted candidate }
-    {
-        let mut pushed = self;
-        if wanted && self.count < 6 {
-            pushed.places[self.count as usize] = candidate;
-            pushed.count += 1;
-        }
-        pushed
-    }
-}
-
 // ---- the choice
 
 // The candidate with the greatest objective after its Newton step, or the current parameters. Of
 // equal objectives the first stays, and a NaN is never greater. A refused objective ends the choice.
-#[tactic(auto, using(std::proofs::lemmas::Bool::Decides::nat_tests), unfolding(crate::specs::Choice::choice, crate::specs::Choice::used, crate::specs::Choice::better, crate::specs::Choice::judged))]
+#[tactic(auto, unfolding(crate::specs::Choice::choice, crate::specs::Choice::better, crate::specs::Choice::judged))]
 pub fn choose(
     use_byte_loss_ratio: bool,
     current: ChannelParameters,
-    candidates: Candidates,
+    candidates: &[ChannelParameters],
     rows: [Row; 15],
     average_reported_loss_ratio: f64,
 ) -> Result<ChannelParameters, Refusal>
-    ensures { result ≡ Choice.choice use_byte_loss_ratio current candidates rows average_reported_loss_ratio }
+    ensures { result ≡ Choice.choice use_byte_loss_ratio current candidates.now rows average_reported_loss_ratio }
 {
     let mut best_candidate = current;
     let mut objective_max = f64::MIN;
-    // a count above six counts as six
-    let used = candidates.count.min(6) as usize;
-    for candidate in &candidates.places[..used] {
+    for candidate in candidates {
         let candidate = likelihood::newtons_method_update(rows, *candidate);
         let candidate_objective = likelihood::get_objective(
             use_byte_loss_ratio,

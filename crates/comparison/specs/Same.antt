@@ -19,13 +19,13 @@ use Rattle.estimator.specs.declared.Recovery.{Recovery}
 use Rattle.loss_controller.specs.declared.LossController.{LossController}
 use Rattle.comparison.specs.declared.Changes.{Changes}
 
-unfoldable pub float : Float → Float → Bool
+abbrev pub float : Float → Float → Bool
 float a b = (to_bits binary64 a == to_bits binary64 b)
 
-unfoldable pub rate : Bitrate → Bitrate → Bool
+abbrev pub rate : Bitrate → Bitrate → Bool
 rate a b = float a.bps b.bps
 
-unfoldable pub time : Timestamp → Timestamp → Bool
+abbrev pub time : Timestamp → Timestamp → Bool
 time a b = is_eq (Time.order a b)
 
 abbrev pub option : Option Bitrate → Option Bitrate → Bool
@@ -43,7 +43,7 @@ sums a b =
     && ((a.size == b.size)
     && (a.lost_size == b.lost_size)))
 
-unfoldable pub observation : Observation → Observation → Bool
+abbrev pub observation : Observation → Observation → Bool
 observation a b =
     (a.num_packets == b.num_packets)
     && (a.num_lost_packets == b.num_lost_packets)
@@ -60,19 +60,19 @@ window = pointwise observation
 
 -- ---- the estimator
 
-unfoldable pub parameters : ChannelParameters → ChannelParameters → Bool
+abbrev pub parameters : ChannelParameters → ChannelParameters → Bool
 parameters a b =
     float a.inherent_loss b.inherent_loss && rate a.loss_limited_bandwidth b.loss_limited_bandwidth
 
-unfoldable pub hold : HoldInfo → HoldInfo → Bool
+abbrev pub hold : HoldInfo → HoldInfo → Bool
 hold a b = time a.timestamp b.timestamp && (a.duration.nanos == b.duration.nanos) && rate a.rate b.rate
 
-unfoldable pub recovery : Recovery → Recovery → Bool
+abbrev pub recovery : Recovery → Recovery → Bool
 recovery a b =
     time a.recovering_after_loss_timestamp b.recovering_after_loss_timestamp
     && rate a.bandwidth_limit_in_current_window b.bandwidth_limit_in_current_window
 
-unfoldable pub estimator : Estimator → Estimator → Bool
+abbrev pub estimator : Estimator → Estimator → Bool
 estimator a b =
     (number a.state == number b.state)
     && parameters a.current_estimate b.current_estimate
@@ -83,7 +83,7 @@ estimator a b =
 -- ---- the controller
 
 -- the parts that are not the same
-unfoldable pub changes : LossController → LossController → Changes
+abbrev pub changes : LossController → LossController → Changes
 changes a b =
     let o = a.observations in
     let p = b.observations in

@@ -6,12 +6,11 @@ ghost use Rattle.std.specs.Prelude.{◌≡◌};
 ghost use Rattle.comparison.specs.Same as Same;
 
 use bandwidth::Bitrate;
-use estimator::{Estimator, HoldInfo, Recovery};
-use likelihood::ChannelParameters;
+use estimator::Estimator;
 use loss_controller::LossController;
 use observation::Observation;
 
-#[derive(Clone, Copy)]
+#[derive(Clone, Copy, PartialEq, Eq, Default)]
 pub struct Changes {
     pub profile: bool,
     pub sums: bool,
@@ -31,13 +30,11 @@ impl Changes {
     pub fn is_none(self) -> bool
         ensures { result ≡ Same.is_none self }
     {
-        let observed = self.sums || self.time || self.count || self.window || self.ceiling;
-        let told = self.acknowledged || self.delay || self.alr || self.capacity;
-        !(self.profile || observed || self.estimator || told)
+        self == Changes::default()
     }
 }
 
-#[tactic(auto, using(time::proofs::Comparisons::eq_is), unfolding(crate::specs::Same::changes, crate::specs::Same::time))]
+#[tactic(auto, using(time::proofs::Comparisons::eq_is))]
 pub fn compared(a: LossController, b: LossController) -> Changes
     ensures { result ≡ Same.changes a b }
 {
@@ -55,95 +52,66 @@ pub fn compared(a: LossController, b: LossController) -> Changes
             other.cached_instant_upper_bound,
         ),
         estimator: !same_estimator(a.estimator, b.estimator),
-        acknowledged: !same_rate(told.acknowledged_bitrate, retold.acknowledged_bitrate),
-        delay: !same_rate(told.delay_based_estimate, retold.delay_based_estimate),
+        acknowledged: told.acknowledged_bitrate.to_bits() != retold.acknowledged_bitrate.to_bits(),
+        delay: told.delay_based_estimate.to_bits() != retold.delay_based_estimate.to_bits(),
         alr: told.alr_start_time != retold.alr_start_time,
         capacity: !same_option(told.link_capacity_estimate, retold.link_capacity_estimate),
     }
 }
 
-#[tactic(auto, unfolding(crate::specs::Same::float))]
-fn same_float(a: f64, b: f64) -> bool
-    ensures { result ≡ Same.float a b }
-{
-    float::to_bits(a) == float::to_bits(b)
-}
-
-#[tactic(auto, unfolding(crate::specs::Same::rate))]
-fn same_rate(a: Bitrate, b: Bitrate) -> bool
-    ensures { result ≡ Same.rate a b }
-{
-    same_float(a.bps, b.bps)
-}
-
+// By their bits: two NaN can be the same, and zero is not -0.
 fn same_option(a: Option<Bitrate>, b: Option<Bitrate>) -> bool
     ensures { result ≡ Same.option a b }
 {
-    match (a, b) {
-        (Some(rate), Some(other)) => same_rate(rate, other),
-        (None, None) => true,
-        _ => false,
-    }
+    a.map(Bitrate::to_bits) == b.map(Bitrate::to_bits)
 }
 
-fn same_window(window: [Observation; 15], other_window: [Observation; 15]) -> bool
-    ensures { result ≡ Same.window window other_window }
+fn same_window(a: [Observation; 15], b: [Observation; 15]) -> bool
+    ensures { result ≡ Same.window a b }
 {
-    for slot in 0..15 {
-        if !same_observation(window[slot], other_window[slot]) {
-            return false;
-        }
-    }
-    true
+    a.iter()
+        .zip(&b)
+        .all(|(one, other)| same_observation(*one, *other))
 }
 
-#[tactic(auto, unfolding(crate::specs::Same::observation))]
 fn same_observation(a: Observation, b: Observation) -> bool
     ensures { result ≡ Same.observation a b }
 {
-    a.num_packets == b.num_packets
-        && a.num_lost_packets == b.num_lost_packets
-        && a.num_received_packets == b.num_received_packets
-        && a.size == b.size
-        && a.lost_size == b.lost_size
-        && a.id == b.id
-        && a.is_initialized == b.is_initialized
-        && same_rate(a.sending_rate, b.sending_rate)
+    let parts = |o: Observation| {
+        let packets = (o.num_packets, o.num_lost_packets, o.num_received_packets);
+        let sizes = (o.size, o.lost_size);
+        (
+            packets,
+            sizes,
+            o.id,
+            o.is_initialized,
+            o.sending_rate.to_bits(),
+        )
+    };
+    parts(a) == parts(b)
 }
 
-#[tactic(auto, using(time::proofs::Comparisons::eq_is), unfolding(crate::specs::Same::estimator, crate::specs::Same::time))]
+#[tactic(auto, using(time::proofs::Comparisons::eq_is))]
 fn same_estimator(a: Estimator, b: Estimator) -> bool
     ensures { result ≡ Same.estimator a b }
 {
-    a.state == b.state
-        && same_parameters(a.current_estimate, b.current_estimate)
-        && same_hold(a.last_hold_info, b.last_hold_info)
-        && a.last_time_estimate_reduced == b.last_time_estimate_reduced
-        && same_recovery(a.recovery, b.recovery)
-}
-
-#[tactic(auto, unfolding(crate::specs::Same::parameters))]
-fn same_parameters(a: ChannelParameters, b: ChannelParameters) -> bool
-    ensures { result ≡ Same.parameters a b }
-{
-    same_float(a.inherent_loss, b.inherent_loss)
-        && same_rate(a.loss_limited_bandwidth, b.loss_limited_bandwidth)
-}
-
-#[tactic(auto, using(time::proofs::Comparisons::eq_is), unfolding(crate::specs::Same::hold, crate::specs::Same::time))]
-fn same_hold(a: HoldInfo, b: HoldInfo) -> bool
-    ensures { result ≡ Same.hold a b }
-{
-    a.timestamp == b.timestamp && a.duration == b.duration && same_rate(a.rate, b.rate)
-}
-
-#[tactic(auto, using(time::proofs::Comparisons::eq_is), unfolding(crate::specs::Same::recovery, crate::specs::Same::time))]
-fn same_recovery(a: Recovery, b: Recovery) -> bool
-    ensures { result ≡ Same.recovery a b }
-{
-    a.recovering_after_loss_timestamp == b.recovering_after_loss_timestamp
-        && same_rate(
-            a.bandwidth_limit_in_current_window,
-            b.bandwidth_limit_in_current_window,
+    let parts = |estimator: Estimator| {
+        let estimate = estimator.current_estimate;
+        let hold = estimator.last_hold_info;
+        let recovery = estimator.recovery;
+        (
+            estimator.state,
+            (
+                float::to_bits(estimate.inherent_loss),
+                estimate.loss_limited_bandwidth.to_bits(),
+            ),
+            (hold.timestamp, hold.duration, hold.rate.to_bits()),
+            estimator.last_time_estimate_reduced,
+            (
+                recovery.recovering_after_loss_timestamp,
+                recovery.bandwidth_limit_in_current_window.to_bits(),
+            ),
         )
+    };
+    parts(a) == parts(b)
 }

@@ -26,9 +26,7 @@ impl Duration {
     pub fn from_secs_f64(secs: f64) -> Result<Duration, Refusal>
         ensures { result ≡ from_seconds secs }
     {
-        let Ok(span) = std::time::Duration::try_from_secs_f64(secs) else {
-            return Err(Refusal::Arithmetic);
-        };
+        let span = std::time::Duration::try_from_secs_f64(secs).map_err(|_| Refusal::Arithmetic)?;
         let nanos = u64::try_from(span.as_nanos())?;
         Ok(Duration { nanos })
     }

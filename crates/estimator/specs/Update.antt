@@ -1,6 +1,5 @@
 -- What `update_bandwidth_estimate` does once the best candidate is chosen. Definitions only.
-use Rattle.std.specs.Prelude.{Bool, true, ◌&&◌, if◌then◌else◌, Result, Ok}
-use Rattle.std.specs.Float.{inf}
+use Rattle.std.specs.Prelude.{Bool, ◌&&◌, if◌then◌else◌, Result, Ok}
 use Rattle.std.specs.Float.Ieee.{lt}
 use Rattle.refusal.specs.Outcome.{and_then}
 use Rattle.refusal.specs.declared.Refusal.{Refusal}
@@ -10,7 +9,8 @@ use Rattle.std.specs.Ordering.{is_gt}
 use Rattle.time.specs.Time as Time
 use Rattle.time.specs.declared.Timestamp.{Timestamp}
 use Rattle.time.specs.declared.Timestamp.TheVariants.{DistantPast}
-use Rattle.config.specs.Config.{initial_inherent_loss_estimate, max_bitrate}
+use Rattle.config.specs.Config.{max_bitrate}
+use Rattle.likelihood.specs.Feasible.{initial as first_parameters}
 use Rattle.likelihood.specs.declared.ChannelParameters.{ChannelParameters}
 use Rattle.estimator.specs.State.{is_decreasing}
 use Rattle.estimator.specs.Hold as Hold
@@ -22,12 +22,12 @@ use Rattle.estimator.specs.declared.HoldInfo.{HoldInfo}
 use Rattle.estimator.specs.declared.Estimator.{Estimator}
 use Rattle.estimator.specs.declared.Report.{Report}
 
--- LossController::new: no rate yet, which is minus infinity (ChannelParameters::new)
+-- LossController::new
 abbrev pub initial : Estimator
 initial =
     record {
       state = DelayBased;
-      current_estimate = record { inherent_loss = initial_inherent_loss_estimate; loss_limited_bandwidth = Rate.rate (inf true) };
+      current_estimate = first_parameters;
       last_hold_info = Hold.initial;
       last_time_estimate_reduced = DistantPast;
       recovery = Recovering.initial;

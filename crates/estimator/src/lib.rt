@@ -23,11 +23,11 @@ const MAX_HOLD_SECS: f64 = 60.0;
 #[derive(Clone, Copy, Debug, PartialEq, Eq)]
 pub enum LossControllerState {
     // The estimate increases, limited by loss.
-    Increasing,
+    Increasing = 1,
     // The estimate decreases, limited by loss.
-    Decreasing,
+    Decreasing = 2,
     // The estimate is that of the delay controller.
-    DelayBased,
+    DelayBased = 0,
 }
 
 // What keeps the estimate from rising again straight after loss
@@ -71,11 +71,7 @@ impl From<LossControllerState> for u8 {
     ghost from_gives = { λ state number. number ≡ State.number state };
 
     fn from(state: LossControllerState) -> u8 {
-        match state {
-            LossControllerState::Increasing => 1,
-            LossControllerState::Decreasing => 2,
-            LossControllerState::DelayBased => 0,
-        }
+        state as u8
     }
 }
 
@@ -129,7 +125,7 @@ impl Recovery {
         ensures { result ≡ Recovering.window_end self }
     {
         self.recovering_after_loss_timestamp
-            .add_duration(config::DELAYED_INCREASE_WINDOW)
+            .add(config::DELAYED_INCREASE_WINDOW)
     }
 
     // The best rate, bounded by the limit while the window runs.
@@ -174,16 +170,12 @@ impl Recovery {
 }
 
 impl Estimator {
-    #[tactic(auto, using(float::proofs::Std::neg_infinity_is))]
     pub fn new() -> Estimator
         ensures { result ≡ Update.initial }
     {
         Estimator {
             state: LossControllerState::DelayBased,
-            current_estimate: ChannelParameters {
-                inherent_loss: config::INITIAL_INHERENT_LOSS_ESTIMATE,
-                loss_limited_bandwidth: Bitrate::NEG_INFINITY,
-            },
+            current_estimate: ChannelParameters::default(),
             last_hold_info: HoldInfo::default(),
             last_time_estimate_reduced: Timestamp::DistantPast,
             recovery: Recovery::new(),
@@ -194,45 +186,37 @@ impl Estimator {
     // u64 of ns.
     #[tactic(auto, unfolding(crate::specs::Update::applied, crate::specs::Update::with_reduction_noted))]
     pub fn apply_best_candidate(
-        self,
+        mut self,
         best_candidate: ChannelParameters,
         report: Report,
     ) -> Result<Estimator, Refusal>
         ensures { result ≡ Update.applied self best_candidate report }
     {
-        let mut estimator = self;
         if best_candidate.loss_limited_bandwidth < self.current_estimate.loss_limited_bandwidth {
-            estimator.last_time_estimate_reduced = report.last_send_time;
+            self.last_time_estimate_reduced = report.last_send_time;
         }
-        estimator.updated(best_candidate, report)
+        self.updated(best_candidate, report)
     }
 
     // The steps after that, which stop where the hold runs: the rate is then at most the held one.
     #[tactic(auto, using(time::proofs::Comparisons::partial_cmp_is), unfolding(crate::specs::Update::updated, crate::specs::Update::decided, crate::specs::Update::is_in_hold, crate::specs::Update::held))]
     fn updated(
-        self,
+        mut self,
         best_candidate: ChannelParameters,
         report: Report,
     ) -> Result<Estimator, Refusal>
         ensures { result ≡ Update.updated self best_candidate report }
     {
         let loss_limited_bandwidth = self.increase_limited(best_candidate, report)?;
-        let best = ChannelParameters {
-            loss_limited_bandwidth,
-            ..best_candidate
-        };
+        let mut best = best_candidate;
+        best.loss_limited_bandwidth = loss_limited_bandwidth;
         if self.state == LossControllerState::Decreasing
             && self.last_hold_info.timestamp > report.last_send_time
             && loss_limited_bandwidth < report.delay_based_estimate
         {
-            let held = loss_limited_bandwidth.min(self.last_hold_info.rate);
-            return Ok(Estimator {
-                current_estimate: ChannelParameters {
-                    loss_limited_bandwidth: held,
-                    ..best
-                },
-                ..self
-            });
+            best.loss_limited_bandwidth = loss_limited_bandwidth.min(self.last_hold_info.rate);
+            self.current_estimate = best;
+            return Ok(self);
         }
         self.with_new_state(best, report)
     }
@@ -377,7 +361,7 @@ impl Estimator {
                 }
                 let duration = self.last_hold_info.duration;
                 Ok(HoldInfo {
-                    timestamp: last_send_time.add_duration(duration)?,
+                    timestamp: last_send_time.add(duration)?,
                     duration: doubled(duration),
                     rate: loss_limited_bandwidth,
                 })

@@ -1,7 +1,7 @@
 -- Floats that are not above a finite one with its sign clear: what is below such a float, and the smaller of it and any other. Assumes nothing.
-use Rattle.std.proofs.Common.{◌≡◌, Bool, true, false, T, refl, true≢false}
+use Rattle.std.proofs.Common.{rules, ◌≡◌, Bool, true, false, T, refl}
 use Rattle.std.proofs.lemmas.Float.{lt_trans, T_from_true}
-use lib.Ieee.{Float, nan, inf, fin, is_nan, lt}
+use lib.Ieee.{Float, is_nan, lt}
 use lib.Ieee.Scale.{finite}
 use Rattle.float.specs.Rust.{minimum}
 use Rattle.float.proofs.NotNegative.{upward}
@@ -10,12 +10,7 @@ use Rattle.float.proofs.Refusal.{tested}
 -- one with its sign clear is finite too
 pub at_most_finite : (m x : Float) → T (finite m) → T (upward x) → lt m x ≡ false → T (finite x)
 unfolding lt
-at_most_finite nan _ f u h = elim f [ ]
-at_most_finite (inf _) _ f u h = elim f [ ]
-at_most_finite (fin s m k) nan f u h = elim u [ ]
-at_most_finite (fin s m k) (inf true) f u h = elim u [ ]
-at_most_finite (fin s m k) (inf false) f u h = absurd (true≢false h)
-at_most_finite (fin s m k) (fin t n d) f u h = tt
+at_most_finite m x f u h = search rules
 
 -- what is below a float that m is not below
 pub below_at_most : (m x y : Float) → T (finite m) → T (upward m) → lt y x ≡ true → lt m x ≡ false → lt m y ≡ false

@@ -1,8 +1,6 @@
 pub mod Fits
 pub mod Refusal
 pub mod Std
-pub mod Both
-pub mod Each
 pub mod Extremes
 pub mod NotNan
 pub mod NotNegative

@@ -1,7 +1,7 @@
 -- Floats that are not NaN: what is rounded, and the sums and products that are. Assumes nothing.
-use Rattle.std.proofs.Common.{◌≡◌, ℕ, zero, suc, ◌+◌, ◌-◌, ◌*◌, ◌^◌, Bool, false, ◌&&◌, T, ltb, ℤ, refl}
+use Rattle.std.proofs.Common.{rules, ◌≡◌, ℕ, zero, suc, ◌+◌, ◌-◌, ◌*◌, ◌^◌, Bool, false, ◌&&◌, T, ltb, ℤ, refl}
 use mathlib.Core.Bool.{beq}
-use lib.Ieee.{Float, nan, inf, fin, binary64, low, unlike, up, down, odd, units, round, sum, add, mul, is_nan}
+use lib.Ieee.{Float, inf, fin, binary64, low, odd, units, round, sum, add, mul, is_nan}
 use lib.Ieee.Fits.{round_is}
 use lib.Ieee.Scale.{finite}
 use Rattle.float.specs.Rounded.{◌⊕◌, ◌⊗◌}
@@ -37,17 +37,9 @@ sum_not_nan s a t b c =
 -- a sum of a finite float and one that is not NaN
 pub add_not_nan : (x y : Float) → T (finite x) → NotNan y → NotNan (x ⊕ y)
 unfolding add is_nan
-add_not_nan nan y f n = elim f [ ]
-add_not_nan (inf _) y f n = elim f [ ]
-add_not_nan (fin s m e) nan f n = n
-add_not_nan (fin s m e) (inf t) f n = refl
-add_not_nan (fin s m e) (fin t k d) f n = sum_not_nan s (m * up e * down d) t (k * up d * down e) (down e * down d)
+add_not_nan x y f n = search (rules, sum_not_nan)
 
 -- a product of finite floats
 pub mul_not_nan : (x y : Float) → T (finite x) → T (finite y) → NotNan (x ⊗ y)
 unfolding mul
-mul_not_nan nan y f g = elim f [ ]
-mul_not_nan (inf _) y f g = elim f [ ]
-mul_not_nan (fin s m e) nan f g = elim g [ ]
-mul_not_nan (fin s m e) (inf _) f g = elim g [ ]
-mul_not_nan (fin s m e) (fin t k d) f g = round_not_nan (unlike s t) (m * up e * (k * up d)) (down e * down d)
+mul_not_nan x y f g = search (rules, round_not_nan)

@@ -1,6 +1,5 @@
 -- Floats of binary64 that are not negative: finite with the sign clear, or plus infinity. Assumes nothing.
-use Rattle.std.proofs.Common.{◌≡◌, ℕ, ◌+◌, ◌*◌, Bool, true, false, not, T, refl}
-use mathlib.Core.Bool.{false≢true}
+use Rattle.std.proofs.Common.{rules, ◌≡◌, ℕ, ◌+◌, ◌*◌, Bool, true, false, not, T}
 use lib.Ieee.{Float, nan, inf, fin, binary64, up, down, round, sum, add, mul, fits, is_nan, lt}
 use lib.Ieee.Fits.{inf-fits, round-fits, add-fits}
 use lib.Ieee.Scale.{finite}
@@ -25,31 +24,19 @@ pub record NotNegative (x : Float) : Type 0 where
 
 -- plus infinity is not negative
 pub inf_not_negative : NotNegative (inf false)
-inf_not_negative = record { holds = inf-fits binary64 false; above = tt }
+inf_not_negative = search (rules, inf-fits)
 
 -- a float with the sign clear is no NaN
 pub upward_not_nan : (x : Float) → T (upward x) → is_nan x ≡ false
 unfolding is_nan
-upward_not_nan nan u = elim u [ ]
-upward_not_nan (inf s) u = refl
-upward_not_nan (fin s m e) u = refl
+upward_not_nan x u = search rules
 
 -- ---- the larger
 
 -- what is above a float with the sign clear has it clear
 pub above_upward : (x y : Float) → T (upward x) → lt x y ≡ true → T (upward y)
 unfolding lt
-above_upward nan y u h = elim u [ ]
-above_upward (inf true) y u h = elim u [ ]
-above_upward (fin true m e) y u h = elim u [ ]
-above_upward (inf false) nan u h = absurd (false≢true h)
-above_upward (inf false) (inf t) u h = absurd (false≢true h)
-above_upward (inf false) (fin t n d) u h = absurd (false≢true h)
-above_upward (fin false m e) nan u h = absurd (false≢true h)
-above_upward (fin false m e) (inf true) u h = absurd (false≢true h)
-above_upward (fin false m e) (inf false) u h = tt
-above_upward (fin false m e) (fin true n d) u h = absurd (false≢true h)
-above_upward (fin false m e) (fin false n d) u h = tt
+above_upward x y u h = search rules
 
 -- the larger of one that is not negative and any other float is not
 pub maximum_not_negative : {x : Float} (y : Float) → NotNegative x → Holds y → NotNegative (maximum x y)
@@ -64,35 +51,23 @@ pub round_upward : (a c : ℕ) → T (upward (round binary64 false a c))
 round_upward = round_by (λ (x : Float). T (upward x)) false tt (λ m e. tt)
 
 pub round_not_negative : (a c : ℕ) → NotNegative (round binary64 false a c)
-round_not_negative a c = record { holds = round-fits binary64 false a c; above = round_upward a c }
+round_not_negative a c = search (rules, round-fits, round_upward)
 
 pub add_upward : (x y : Float) → T (upward x) → T (upward y) → T (upward (x ⊕ y))
 unfolding add sum
 add_upward nan y u v = elim u [ ]
-add_upward (inf false) nan u v = elim v [ ]
-add_upward (inf false) (inf true) u v = elim v [ ]
-add_upward (inf false) (fin true n d) u v = elim v [ ]
-add_upward (inf true) y u v = elim u [ ]
+add_upward (inf s) y u v = search rules
 add_upward (fin false m e) nan u v = elim v [ ]
-add_upward (fin false m e) (inf true) u v = elim v [ ]
+add_upward (fin false m e) (inf t) u v = search rules
 add_upward (fin false m e) (fin true n d) u v = elim v [ ]
 add_upward (fin true m e) y u v = elim u [ ]
-add_upward (inf false) (inf false) u v = tt
-add_upward (inf false) (fin false n d) u v = tt
-add_upward (fin false m e) (inf false) u v = tt
 add_upward (fin false m e) (fin false n d) u v = round_upward (m * up e * down d + n * up d * down e) (down e * down d)
 
 -- a sum of two that are not negative is not
 pub add_not_negative : (x y : Float) → NotNegative x → NotNegative y → NotNegative (x ⊕ y)
-add_not_negative x y n k = record { holds = add-fits binary64 x y; above = add_upward x y n.above k.above }
+add_not_negative x y n k = search (rules, add-fits, add_upward)
 
 -- a product of two finite ones
 pub mul_not_negative : (x y : Float) → T (finite x) → T (upward x) → T (finite y) → T (upward y) → NotNegative (x ⊗ y)
 unfolding mul
-mul_not_negative nan y f u g v = elim f [ ]
-mul_not_negative (inf _) y f u g v = elim f [ ]
-mul_not_negative (fin false m e) nan f u g v = elim g [ ]
-mul_not_negative (fin false m e) (inf _) f u g v = elim g [ ]
-mul_not_negative (fin false m e) (fin true n d) f u g v = elim v [ ]
-mul_not_negative (fin true m e) y f u g v = elim u [ ]
-mul_not_negative (fin false m e) (fin false n d) f u g v = round_not_negative (m * up e * (n * up d)) (down e * down d)
+mul_not_negative x y f u g v = search (rules, round_not_negative)

@@ -1,25 +1,16 @@
 -- An answer is chosen by a test, or by whether a step before it is refused: the answer, or the refusal, tells of the test. Assumes nothing.
-use Rattle.std.proofs.Common.{◌≡◌, Bool, true, false, cond, Result, Ok, Err, sym, refl, true≢false, rules}
+use Rattle.std.proofs.Common.{◌≡◌, Bool, true, false, cond, Result, Ok, Err, rules}
 use Rattle.std.proofs.lemmas.Bool.{cond_both}
 use Rattle.refusal.specs.Outcome.{and_then}
 
 -- where the test's other answer is a refusal, an answer passed the test
 pub accepted : {A E : Type 0} (b : Bool) (r : Result A E) (e : E) {y : A} → cond b r (Err e) ≡ Ok y → (b ≡ true) × (r ≡ Ok y)
-accepted true r e h = (refl, h)
-accepted false r e h = search rules
-
--- where the test's answer is none, a refusal did not pass it
-pub declined : {A E : Type 0} (b : Bool) (x : A) (r : Result A E) {e : E} → cond b (Ok x) r ≡ Err e → (b ≡ false) × (r ≡ Err e)
-declined true x r h = search rules
-declined false x r h = (refl, h)
+accepted b r e h = search rules
 
 -- two choices by tests that agree: what relates the first two and the second two relates the chosen ones, and either may need how the test came out
 pub agreed : {A B : Type 0} (P : A → B → Type 0) (a b : Bool) → a ≡ b → {x y : A} {u v : B}
     → (a ≡ true → P x u) → (a ≡ false → P y v) → P (cond a x y) (cond b u v)
-agreed P true true e f g = f refl
-agreed P true false e f g = absurd (true≢false e)
-agreed P false true e f g = absurd (true≢false (sym e))
-agreed P false false e f g = g refl
+agreed P a b e f g = search rules
 
 -- one choice
 pub tested : {A : Type 0} (P : A → Type 0) (b : Bool) {x y : A} → (b ≡ true → P x) → (b ≡ false → P y) → P (cond b x y)
@@ -32,5 +23,4 @@ either P b x y p q = tested P b (λ e. p) (λ e. q)
 -- and where it is a step that may be refused
 pub checked : {A B E : Type 0} (P : Result B E → Type 0) (r : Result A E) {f : A → Result B E}
     → ((x : A) → r ≡ Ok x → P (f x)) → ((e : E) → r ≡ Err e → P (Err e)) → P (and_then r f)
-checked P (Ok x) f g = f x refl
-checked P (Err e) f g = g e refl
+checked P r f g = search rules

@@ -1,35 +1,13 @@
 // f64 with Rust's rules, for what Rattle's own operators and methods leave open: which of two zeros
-// is the smaller, bounds out of order, a cast that loses something, a bit pattern that is a NaN's.
+// is the smaller, bounds out of order, a bit pattern that is a NaN's, the sign of a NaN.
 #![tactic(auto)]
 
-ghost use Rattle.std.specs.Prelude.{◌≡◌, from_bits, is_nan, to_bits};
+ghost use Rattle.std.specs.Prelude.{◌≡◌, from_bits, to_bits};
 ghost use Rattle.std.specs.Float.{binary64};
-ghost use Rattle.std.specs.Float.Ieee.{to_signed, to_unsigned};
-ghost use Rattle.std.specs.Float.Ieee.Scale.{finite};
-ghost use Rattle.float.specs.Rust.{magnitude, minimum, maximum, ceiling, half_away, sign_bit};
+ghost use Rattle.float.specs.Rust.{minimum, maximum, sign_bit};
 ghost use Rattle.float.specs.Answer.{clamped};
 
 use refusal::Refusal;
-
-pub fn is_nan(x: f64) -> bool
-    ensures { result ≡ is_nan x }
-{
-    x.is_nan()
-}
-
-#[tactic(auto, using(crate::proofs::Std::finite_is))]
-pub fn is_finite(x: f64) -> bool
-    ensures { result ≡ finite x }
-{
-    x.is_finite()
-}
-
-#[tactic(auto, using(crate::proofs::Std::magnitude_is))]
-pub fn abs(x: f64) -> f64
-    ensures { result ≡ magnitude x }
-{
-    x.abs()
-}
 
 // The smaller of two: the other operand when one is NaN, and of two zeros the first.
 #[tactic(auto, unfolding(crate::specs::Rust::minimum))]
@@ -57,36 +35,6 @@ pub fn clamp(x: f64, min: f64, max: f64) -> Result<f64, Refusal>
     } else {
         Err(Refusal::Arithmetic)
     }
-}
-
-// The least whole number that is not below x.
-#[tactic(auto, using(crate::proofs::Std::ceiling_is))]
-pub fn ceil(x: f64) -> f64
-    ensures { result ≡ ceiling x }
-{
-    x.ceil()
-}
-
-// The nearest whole number, a half away from zero.
-#[tactic(auto, using(crate::proofs::Std::half_away_is))]
-pub fn round(x: f64) -> f64
-    ensures { result ≡ half_away x }
-{
-    x.round()
-}
-
-// `x as u64`: toward zero, to the nearest end of the range where it is outside, NaN to 0.
-pub fn as_u64(x: f64) -> u64
-    ensures { result ≡ to_unsigned 64 x }
-{
-    std::num::saturating_f64_to_u64(x)
-}
-
-// `x as i64`, by the same rules.
-pub fn as_i64(x: f64) -> i64
-    ensures { result ≡ to_signed 63 x }
-{
-    std::num::saturating_f64_to_i64(x)
 }
 
 // The float with these bits; every pattern of a NaN gives the NaN.

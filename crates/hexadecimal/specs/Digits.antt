@@ -1,6 +1,8 @@
 -- Hexadecimal digits, in lower case, as numbers. Definitions only.
-use Rattle.std.specs.Prelude.{ℕ, ◌+◌, ◌-◌, ◌*◌, ◌%◌, ◌^◌, ◌&&◌, if◌then◌else◌, nat_le, List}
+use Rattle.std.specs.Prelude.{ℕ, ◌+◌, ◌-◌, ◌*◌, ◌%◌, ◌^◌, ◌&&◌, if◌then◌else◌, nat_le, false, List, [], ◌∷◌, ◌++◌}
+use Rattle.std.specs.Fmt.{digits, padded_integral, format_spec}
 use Rattle.std.specs.List.{fold}
+use Rattle.hexadecimal.specs.declared.Answer.{Answer}
 
 -- '0' to '9' are bytes 48 to 57, 'a' to 'f' 97 to 102; any other byte counts as 0
 abbrev pub digit_of : ℕ → ℕ
@@ -12,3 +14,11 @@ with_digit n b = n % 2 ^ 60 * 16 + digit_of b
 
 abbrev pub value : List ℕ → ℕ
 value text = fold with_digit 0 text
+
+-- what `{:016x}` writes: zeros (4) before the number, in 16 places
+abbrev pub sixteen_digits : ℕ → List ℕ
+sixteen_digits n = padded_integral (format_spec 32 0 4 16 (2 ^ 64 - 1)) false [] (digits 16 false n)
+
+-- the number of a refusal, a space (32), and the result
+abbrev pub line_of : Answer → List ℕ
+line_of a = digits 16 false a.refusal ++ (32 ∷ sixteen_digits a.result)

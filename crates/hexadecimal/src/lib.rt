@@ -1,8 +1,26 @@
-// Numbers in hexadecimal, as the replay programs read them.
+// Numbers in hexadecimal, as the replay programs read and print them.
 #![tactic(auto)]
 
-ghost use Rattle.std.specs.Prelude.{◌≡◌, ◌<◌};
-ghost use Rattle.hexadecimal.specs.Digits.{digit_of, with_digit, value};
+ghost use Rattle.std.specs.Prelude.{◌≡◌, ◌<◌, Some};
+ghost use Rattle.hexadecimal.specs.Digits.{digit_of, with_digit, value, line_of};
+
+use std::fmt;
+
+// What a call is answered by: the refusal's number, which is 0 for none, and the result's bits
+#[derive(Clone, Copy)]
+pub struct Answer {
+    pub refusal: u8,
+    pub result: u64,
+}
+
+impl fmt::Display for Answer {
+    ghost output = { λ answer. Some (line_of answer) };
+
+    fn fmt<W: fmt::Write>(&self, f: &mut fmt::Formatter<W>) -> fmt::Result {
+        let Answer { refusal, result } = *self;
+        write!(f, "{refusal:x} {result:016x}")
+    }
+}
 
 // The last sixteen digits of a text, as a number. A byte that is no digit counts as 0.
 pub fn number(text: &[u8]) -> u64

@@ -1,7 +1,6 @@
 -- Demand 3: after every list of calls. Assumes nothing.
-use Rattle.std.proofs.Common.{Bool, cond, Option, IfSome, T, eqb, ◌∙◌, subst, arith, ne_eqb}
+use Rattle.std.proofs.Common.{rules, cond, IfSome, T, eqb, ◌∙◌, arith, ne_eqb}
 use lib.Ieee.Scale.{finite}
-use Rattle.float.proofs.Refusal.{either, tested}
 use Rattle.rounding.specs.Plain.{plain}
 use Rattle.rounding.proofs.Upward.{upward_plain}
 use Rattle.bandwidth.specs.Rate.{smaller}
@@ -25,7 +24,7 @@ use Rattle.history.proofs.Under.{minimum_under}
 
 -- a limited rate is finite with its sign clear
 pub limited_plain : (r : Bitrate) → LimitedRate r → T (plain r.bps)
-limited_plain r l = upward_plain r.bps l.forward.above (limited_finite r l)
+limited_plain r l = search (rules, upward_plain, limited_finite)
 
 module _ (c : LossController) (h : History) (r : Reached c h) where
   -- ---- a published rate
@@ -43,22 +42,15 @@ module _ (c : LossController) (h : History) (r : Reached c h) where
   pub published_by : (P : Bitrate → Type 0) → (T (finite own.bps) → P (cond (eqb c.observations.num_observations 0) own (smaller delayed ceiling)))
       → IfSome (loss_based_result c).bandwidth_estimate P
   unfolding loss_based_result published
-  published_by P holds = tested (λ (o : Option Bitrate). IfSome o P) (finite own.bps) (λ f. holds (rw f tt)) (λ f. tt)
+  published_by P holds = search rules
 
   delayed_limited : T (finite own.bps) → LimitedRate delayed
   unfolding at_most
-  delayed_limited f =
-      let delay = c.inputs.delay_based_estimate in
-      let limited = r.estimator.rates.current f in
-      tested LimitedRate (finite delay.bps) (λ e. smaller_limited own delay limited (r.inputs.delay.limited (rw e tt)).forward) (λ e. limited)
+  delayed_limited f = search (rules, smaller_limited own, r.estimator.rates.current f, r.inputs.delay.limited)
 
   -- it is limited, so what holds of limited rates holds of it
   pub published_limited : (P : Bitrate → Type 0) → ((r : Bitrate) → LimitedRate r → P r) → IfSome (loss_based_result c).bandwidth_estimate P
-  published_limited P holds =
-      let o = c.observations in
-      published_by P
-      (λ f. holds _ (either LimitedRate (eqb o.num_observations 0) own (smaller delayed ceiling) (r.estimator.rates.current f)
-      (smaller_limited delayed ceiling (delayed_limited f) (ceiling_not_negative o h r.tied))))
+  published_limited P holds = search (rules, published_by, smaller_limited, delayed_limited, ceiling_not_negative)
 
   -- ---- the claim
 
@@ -82,4 +74,4 @@ pub demand_3 : Demand3
 demand_3 use_bytes calls =
     let c = left use_bytes calls in
     let h = after (told use_bytes calls) in
-    subst (λ (b : Bool). Demand b c h) (keeps_profile.kept (initial use_bytes) calls ∙ keeps_profile.made use_bytes) (demanded c h (reached use_bytes calls))
+    search (rules, demanded c h (reached use_bytes calls), keeps_profile.kept (initial use_bytes) calls, keeps_profile.made use_bytes)

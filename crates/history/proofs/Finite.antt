@@ -1,14 +1,13 @@
 -- Request Q-5: after every list of calls a finite estimate stays finite, and it and every published rate are at most 10^15. Assumes nothing.
-use Rattle.std.proofs.Common.{List, [], ◌∷◌, T, arith}
+use Rattle.std.proofs.Common.{rules, List, [], ◌∷◌, T}
 use lib.Ieee.{of_bits}
-use lib.Ieee.Fits.{and_i, and_l, and_r}
 use Rattle.std.specs.List.{list_all}
 use Rattle.rounding.proofs.Order.{under_of_not_lt}
 use Rattle.bandwidth.specs.Rate.{most_rate}
 use Rattle.bandwidth.specs.declared.Bitrate.{Bitrate}
 use Rattle.bandwidth.proofs.Limited.{LimitedRate}
 use Rattle.loss_controller.specs.declared.LossController.{LossController}
-use Rattle.history.specs.Calls.{Call, estimate, acknowledged, alr, capacity, report, read}
+use Rattle.history.specs.Calls.{Call}
 use Rattle.history.specs.Finite.{is_report, hands_finite, KeptFinite, StaysFinite, UpToMost, AtMost}
 use Rattle.history.specs.History.{History, fed}
 use Rattle.history.specs.Run.{next, told_of}
@@ -21,42 +20,25 @@ use Rattle.history.proofs.Step.{estimate_kept, step_reached, reached}
 kept : (later : List Call) (c : LossController) (h : History) → Reached c h → T (list_all hands_finite later) → KeptFinite c later
 kept [] c h r n f = f
 kept (call ∷ later) c h r n f =
-    kept later (next c call) (fed h (told_of c call)) (step_reached c h call r) (and_r (hands_finite call) (list_all hands_finite later) n)
-    (estimate_kept c h r call (and_l (hands_finite call) (list_all hands_finite later) n) f)
+    kept later (next c call) (fed h (told_of c call)) (step_reached c h call r) (search rules) (search (rules, estimate_kept c h r call))
 
 -- reports are no estimates
-report_hands : (call : Call) → T (is_report call) → T (hands_finite call)
-report_hands (estimate _) n = elim n [ ]
-report_hands (acknowledged _) n = elim n [ ]
-report_hands (alr _) n = elim n [ ]
-report_hands (capacity _) n = elim n [ ]
-report_hands read n = elim n [ ]
-report_hands (report times sizes flags delay) n = tt
-
 reports_hand : (later : List Call) → T (list_all is_report later) → T (list_all hands_finite later)
 reports_hand [] n = tt
-reports_hand (call ∷ later) n =
-    and_i (hands_finite call) (list_all hands_finite later) (report_hands call (and_l (is_report call) (list_all is_report later) n))
-    (reports_hand later (and_r (is_report call) (list_all is_report later) n))
+reports_hand (call ∷ later) n = search (rules, reports_hand later)
 
 pub stays_finite : StaysFinite
-stays_finite use_bytes calls = record {
-  reports = λ later n. kept later _ _ (reached use_bytes calls) (reports_hand later n);
-  calls = λ later n. kept later _ _ (reached use_bytes calls) n;
-}
+stays_finite use_bytes calls =
+    let r = reached use_bytes calls in
+    record { reports = λ later n. kept later _ _ r (reports_hand later n); calls = λ later n. kept later _ _ r n }
 
 -- ---- at most 10^15
 
 up_to_most_lem : (r : Bitrate) → LimitedRate r → UpToMost r.bps
 unfolding of_bits
 up_to_most_lem r l =
-    let under = under_of_not_lt {x = most_rate.bps} {y = r.bps} tt (limited_plain r l) l.within in
-    record { plainly = limited_plain r l; below = omega (arith, under.below) }
+    let under = under_of_not_lt {x = most_rate.bps} {y = r.bps} tt (limited_plain r l) l.within in search (rules, under.below, limited_plain)
 
 pub at_most_lem : AtMost
 at_most_lem use_bytes calls =
-    let r = reached use_bytes calls in
-    record {
-      estimate = λ f. up_to_most_lem _ (r.estimator.rates.current f);
-      published = published_limited _ _ r (λ published. UpToMost published.bps) up_to_most_lem;
-    }
+    let r = reached use_bytes calls in search (rules, up_to_most_lem, published_limited _ _ r, r.estimator.rates.current)

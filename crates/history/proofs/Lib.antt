@@ -1,4 +1,5 @@
 pub mod Kept
+pub mod Folded
 pub mod Sums
 pub mod Slots
 pub mod Tied

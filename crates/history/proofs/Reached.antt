@@ -1,16 +1,14 @@
 -- What every list of calls leaves: a controller tied to the history, each part of it with what the steps that might refuse rely on. With it the steps
 -- after a complete observation are not refused. Assumes nothing.
-use Rattle.std.proofs.Common.{◌≡◌, ℕ, ◌*◌, ◌^◌, ◌≤◌, Bool, true, false, cond, map, Option, Some, None, IfSome, option_map, Result, Ok, Err, IfOk, T, Float, refl, rules}
-use lib.Ieee.{nan, inf, fin, binary64}
+use Rattle.std.proofs.Common.{◌≡◌, ℕ, ◌*◌, ◌^◌, ◌≤◌, Bool, true, false, Option, Some, None, IfSome, option_map, Result, Ok, IfOk, T, rules}
+use Rattle.std.specs.Bool.{then_some}
 use lib.Ieee.Bits.{of_bits-fits}
 use lib.Ieee.Fits.{inf-fits}
 use lib.Ieee.Scale.{finite}
 use Rattle.refusal.specs.declared.Refusal.{Refusal}
-use Rattle.refusal.specs.declared.Refusal.TheVariants.{Rate as RateRefused}
 use Rattle.refusal.proofs.Gives.{Gives}
-use Rattle.float.specs.Rounded.{bits}
 use Rattle.float.specs.Rust.{sign_bit}
-use Rattle.float.proofs.Each.{Each}
+use Rattle.std.specs.List.{All}
 use Rattle.float.proofs.Extremes.{minimum_by}
 use Rattle.float.proofs.NotNegative.{Holds, inf_not_negative}
 use Rattle.float.proofs.Refusal.{either}
@@ -19,7 +17,6 @@ use Rattle.bandwidth.specs.declared.Bitrate.{Bitrate}
 use Rattle.bandwidth.proofs.NotNegativeRate.{HoldsRate, NotNegativeRate}
 use Rattle.bandwidth.proofs.Limited.{LimitedRate}
 use Rattle.likelihood.proofs.Judged.{SentRow}
-use Rattle.time.specs.Time as Time
 use Rattle.packets.specs.declared.PacketResultsSummary.{PacketResultsSummary}
 use Rattle.observation.specs.Ratio as Ratio
 use Rattle.observation.specs.Rows as Rows
@@ -32,6 +29,7 @@ use Rattle.observation.proofs.Sent.{AllSent, cleared_sent, added_sent, rows_sent
 use Rattle.candidates.specs.Bound as Bound
 use Rattle.candidates.proofs.Chosen.{chosen}
 use Rattle.candidates.proofs.Offered.{bound_holds}
+use Rattle.estimator.specs.State.{is_limited_due_to_loss}
 use Rattle.estimator.specs.declared.Estimator.{Estimator}
 use Rattle.estimator.proofs.Steady.{Timely, Steady, Rates, Taken, fresh_steady, fresh_rates, not_refused}
 use Rattle.loss_controller.specs.Controller.{initial}
@@ -41,7 +39,7 @@ use Rattle.loss_controller.specs.declared.Inputs.{Inputs}
 use Rattle.loss_controller.specs.declared.LossController.{LossController}
 use Rattle.loss_controller.specs.Setters.{rate_of, check_rate, check_capacity}
 use Rattle.history.specs.History.{History, fresh}
-use Rattle.history.proofs.Tied.{Tied, fresh_tied}
+use Rattle.history.proofs.Tied.{Tied, reset_tied}
 use Rattle.history.proofs.Weighed.{Windowed, ratio_of, ceiling_of, readable, ratio_taken}
 
 -- ---- the rates that calls hand over
@@ -51,23 +49,10 @@ pub record TakenRate (r : Bitrate) : Type 0 where
   pub holds : HoldsRate r
   pub limited : T (finite r.bps) → LimitedRate r
 
-infinite_taken : TakenRate (Rate.rate (inf false))
-infinite_taken = record { holds = inf-fits binary64 false; limited = λ f. absurd f }
-
-not_refused_by : (b : Bool) → ◌≡◌ {A = Result (Unit {0}) Refusal} (cond b (Err RateRefused) (Ok tt)) (Ok tt) → b ≡ false
-not_refused_by true e = search rules
-not_refused_by false e = refl
-
 -- what code 2 takes
-by_code_2 : (x : Float) → Holds x → check_rate (Rate.rate x) ≡ Ok tt → TakenRate (Rate.rate x)
-unfolding check_rate sign_bit
-by_code_2 nan h e = record { holds = h; limited = λ f. absurd f }
-by_code_2 (inf s) h e = record { holds = h; limited = λ f. absurd f }
-by_code_2 (fin false m e) h r = record { holds = h; limited = λ f. record { forward = record { holds = h; above = tt }; within = not_refused_by _ r } }
-by_code_2 (fin true m e) h r = search rules
-
 pub rate_taken : (n : ℕ) → check_rate (rate_of n) ≡ Ok tt → TakenRate (rate_of n)
-rate_taken n e = by_code_2 (bits n) (of_bits-fits binary64 n) e
+unfolding check_rate sign_bit
+rate_taken n e = search (rules, of_bits-fits)
 
 pub capacity_taken : (n : Option ℕ) → check_capacity (option_map rate_of n) ≡ Ok tt → IfSome (option_map rate_of n) TakenRate
 unfolding check_capacity
@@ -104,34 +89,20 @@ pub record Reached (c : LossController) (h : History) : Type 0 where
 -- cleared observations are sound
 pub cleared_sound : (use_bytes : Bool) (count : ℕ) → SoundObservations (Window.cleared use_bytes count)
 unfolding Window.cleared
-cleared_sound use_bytes count = record { sent = cleared_sent use_bytes count; timely = tt }
+cleared_sound use_bytes count = search (rules, cleared_sent)
 
 -- and what a report leaves is
 pub added_sound : (o : Observations) (s : PacketResultsSummary) → SoundObservations o → s.last_send_time ≤ 4 * 10 ^ 18
     → IfOk (Window.added o s) (λ (a : Added). SoundObservations a.observations)
 unfolding Window.with_ceiling Window.stored Window.with_partial Window.reference
-added_sound o s k early = both (Window.added o s) (added_sent o s k.sent)
-    (added_by o s (λ r. IfOk r (λ (a : Added). Timely a.observations.last_send_time_most_recent_observation)) (λ n. k.timely) (λ e. tt)
-    (λ q new ceiling u c n r. early) (λ q u c. either Timely (Time.is_exact o.last_send_time_most_recent_observation) _ _ k.timely early))
-  where
-    both : (r : Result Added Refusal) → IfOk r (λ (a : Added). AllSent a.observations)
-        → IfOk r (λ (a : Added). Timely a.observations.last_send_time_most_recent_observation) → IfOk r (λ (a : Added). SoundObservations a.observations)
-    both (Ok a) sent timely = record { sent = sent; timely = timely }
-    both (Err e) sent timely = tt
+added_sound o s k early =
+    let timely = λ (r : Result Added Refusal). IfOk r (λ (a : Added). Timely a.observations.last_send_time_most_recent_observation) in
+    search (rules, added_sent o s k.sent, added_by o s timely)
 
 pub initial_reached : (use_bytes : Bool) → Reached (initial use_bytes) fresh
-initial_reached use_bytes = record {
-  tied = fresh_tied use_bytes;
-  on = refl;
-  observations = cleared_sound use_bytes 0;
-  estimator = record { rates = fresh_rates; steady = fresh_steady };
-  inputs = record { delay = infinite_taken; acknowledged = infinite_taken; capacity = tt };
-}
+initial_reached use_bytes = search (rules, reset_tied use_bytes 0 false, cleared_sound use_bytes 0, fresh_rates, fresh_steady, inf-fits)
 
 -- ---- the steps after a complete observation
-
-infinite_holds : HoldsRate (Rate.rate (inf false))
-infinite_holds = inf-fits binary64 false
 
 -- whatever ceiling is cached
 pub ceiling_not_negative : (o : Observations) (h : History) → Tied o h → NotNegativeRate (Ratio.cached o.cached_instant_upper_bound)
@@ -141,18 +112,15 @@ ceiling_not_negative o h t =
 
 capacity_holds : (on : Bool) (link : Option Bitrate) → IfSome link TakenRate → Holds (Bound.capacity on link).bps
 unfolding Bound.capacity Bound.at_most Rate.smaller
-capacity_holds true (Some r) t = either HoldsRate (finite r.bps) _ _ (minimum_by Holds (inf false) r.bps (λ h. infinite_holds) t.holds) infinite_holds
-capacity_holds true None t = infinite_holds
-capacity_holds false link t = infinite_holds
+capacity_holds on link t = search (rules, inf-fits, minimum_by Holds)
 
-rows_taken : (o : Observations) (h : History) → Windowed o h → AllSent o → Gives (Rows.rows o) (Each SentRow)
+limit_holds : (limited : Bool) (limit : Bitrate) → HoldsRate limit → IfSome (then_some limited limit) HoldsRate
+limit_holds true limit h = h
+limit_holds false limit h = tt
+
+rows_taken : (o : Observations) (h : History) → Windowed o h → AllSent o → Gives (Rows.rows o) (All SentRow)
 unfolding Rows.rows
-rows_taken o h w sent =
-    record {
-      value = map (Rows.row_of o.use_byte_loss_ratio o.num_observations) o.observations;
-      is = rw (readable o h w);
-      holds = rw (readable o h w) at (rows_sent o sent);
-    }
+rows_taken o h w sent = search (rules, readable o h w, rows_sent o sent)
 
 pub updated_taken : (c : LossController) (h : History) → Reached c h → T (Report.has_valid_estimate c) → Taken (Report.updated_estimator c)
 unfolding Report.has_valid_estimate Report.updated_estimator Report.bounds Report.report
@@ -165,6 +133,6 @@ updated_taken c h r f =
     let k = r.estimator in
     let rows = rows_taken o h w r.observations.sent in
     let capacity = capacity_holds (Setters.is_in_alr c) c.inputs.link_capacity_estimate i.capacity in
-    let fit = bound_holds b capacity k.rates.limit.holds (ceiling_not_negative o h r.tied).holds i.delay.holds in
+    let fit = bound_holds b capacity (limit_holds (is_limited_due_to_loss e.state) e.recovery.bandwidth_limit_in_current_window k.rates.limit.holds) (ceiling_not_negative o h r.tied).holds i.delay.holds in
     let choice = chosen o.use_byte_loss_ratio e.current_estimate b rows.value (ratio_of o) (k.rates.current f) i.delay.limited i.acknowledged.limited fit rows.holds in
     rw (rows.is, ratio_taken o h w, choice.1) (not_refused e choice.0 (Report.report c (ratio_of o)) k.steady k.rates f choice.2 r.observations.timely)

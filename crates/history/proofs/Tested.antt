@@ -1,8 +1,7 @@
 -- The claims as tests that compute, and that they make the tests true: where an edited definition makes a test false on a list, the edited claims are
 -- false (tools/refute.py). No theorem cites it. Assumes nothing.
-use Rattle.std.proofs.Common.{◌≡◌, ℕ, ◌+◌, ◌*◌, Bool, true, false, not, ◌&&◌, ◌||◌, List, [], ◌∷◌, ◌++◌, map, Option, Some, None, IfSome, Result, Ok, Err, is_ok, IsErr, Float, T, eqb, leb, ltb, refl, ap, ◌∙◌, subst, eq-eqb, ne_eqb, le-leb, ltb-true, leb-true}
+use Rattle.std.proofs.Common.{rules, ◌≡◌, ℕ, ◌+◌, ◌*◌, Bool, true, false, not, ◌&&◌, ◌||◌, List, [], ◌∷◌, ◌++◌, map, Option, Some, None, Result, Ok, Err, is_ok, Float, eqb, leb, ltb, refl}
 use lib.Ieee.{add, binary64, div, eq, in_float, is_nan, lt, mul, of_bits, of_int, sub, to_bits}
-use lib.Ieee.Bits.{is_true}
 use lib.Ieee.Positive.{num, den}
 use lib.Ieee.Scale.{finite}
 use Rattle.std.specs.List.{list_all}
@@ -21,7 +20,7 @@ use Rattle.logarithm.specs.Power.{weight}
 use Rattle.rounding.specs.Exact.{exact_sum, ratio_part, ceiling_part}
 use Rattle.rounding.specs.Plain.{plain}
 use Rattle.rounding.specs.Ratio.{loss_ratio, loss_ceiling}
-use Rattle.packets.specs.Summary.{check_columns, packets, check_packet, add_packet, summary_of}
+use Rattle.packets.specs.Summary.{check_time, check_columns, packets, check_packet, add_packet, summary_of}
 use Rattle.observation.specs.Partial.{updated}
 use Rattle.observation.specs.Ratio as Ratio
 use Rattle.observation.specs.Window as Window
@@ -31,24 +30,20 @@ use Rattle.loss_controller.specs.Setters as Setters
 use Rattle.loss_controller.specs.Report as Report
 use Rattle.loss_controller.specs.Result.{published, loss_based_result, average_reported_loss_ratio, num_observations}
 use Rattle.loss_controller.specs.declared.LossController.{LossController}
-use Rattle.history.specs.Calls.{Call, Told}
+use Rattle.history.specs.Calls.{Call}
 use Rattle.history.specs.History.{History, fresh, switched, completed, with_running, with_report, heard, fed, after}
 use Rattle.history.specs.WeighedPairs.{pairs, aged, weighed_lost, weighed_total, all_totals}
 use Rattle.history.specs.Run.{step, next, told_of, left_of, all_told, left, told}
-use Rattle.history.specs.Demand.{NearRatio, UnderLossCeiling, Demand, Demand3}
+use Rattle.history.specs.Demand.{Demand, Demand3}
 use Rattle.history.specs.Refusals.{check_report, check_call, refusal_of, Refusals2}
 use Rattle.history.specs.Unreached.{BoundedRatio, RatioAtMostOne, outside_domain, Never6}
-use Rattle.history.specs.Finite.{estimate_of, is_report, hands_finite, StaysFinite, most_bits, UpToMost, Limited, AtMost}
+use Rattle.history.specs.Finite.{estimate_of, is_report, hands_finite, StaysFinite, most_bits, Limited, AtMost}
 use Rattle.history.specs.Unrefused.{answers_of, without_refusals, without_refused, Unrefused1}
 
 -- ---- laws on tests
 
 holds : {a b : Bool} → a ≡ true → b ≡ true → a && b ≡ true
 holds e f = rw e f
-
-implied : (a : Bool) {b : Bool} → (a ≡ true → b ≡ true) → (not a || b) ≡ true
-implied true f = f refl
-implied false f = refl
 
 -- ---- `Demand`
 
@@ -58,28 +53,13 @@ near (Ok x) l t =
     plain x
     && (leb (num x * t * ratio_part) (l * den x * ratio_part + l * den x) && leb (l * den x * ratio_part) (num x * t * ratio_part + l * den x))
 
-near_true : (ratio : Result Float Refusal) (l t : ℕ) → NearRatio ratio l t → near ratio l t ≡ true
-unfolding near
-near_true (Err e) l t n = absurd n
-near_true (Ok x) l t n = holds (is_true (plain x) n.plainly) (holds (le-leb _ _ n.above) (le-leb _ _ n.below))
-
 under : ℕ → ℕ → Float → Bool
 under l t x = plain x && leb (num x * (20 * l) * ceiling_part) (2000000 * t * den x * (ceiling_part + 1) + num x * t * ceiling_part)
-
-under_true : (l t : ℕ) (x : Float) → UnderLossCeiling x l t → under l t x ≡ true
-unfolding under
-under_true l t x u = holds (is_true (plain x) u.plainly) (le-leb _ _ u.under)
 
 -- of the rate that is published, where one is
 each : (Float → Bool) → Option Bitrate → Bool
 each test None = true
 each test (Some r) = test r.bps
-
-each_true : {P : Bitrate → Type 0} (test : Float → Bool) (o : Option Bitrate) → IfSome o P → ((r : Bitrate) → P r → test r.bps ≡ true)
-    → each test o ≡ true
-unfolding each
-each_true test None h f = refl
-each_true test (Some r) h f = f r h
 
 -- the window has bytes, or packets
 counts : Bool → History → Bool
@@ -98,13 +78,8 @@ meets use_bytes c h =
     && (not (counts use_bytes h) || (not (loses use_bytes h) || each (under (weighed_lost use_bytes h) (weighed_total use_bytes h)) rate))))
 
 meets_true : (use_bytes : Bool) (c : LossController) (h : History) → Demand use_bytes c h → meets use_bytes c h ≡ true
-unfolding meets counts loses
-meets_true use_bytes c h d =
-    let rate = (loss_based_result c).bandwidth_estimate in
-    holds (eq-eqb _ _ d.counted)
-    (holds (implied _ (λ some. near_true _ _ _ (d.near (ltb-true 0 _ some))))
-    (holds (each_true plain rate d.clear (λ r p. is_true _ p))
-    (implied _ (λ some. implied _ (λ six. each_true _ rate (d.capped (ltb-true 0 _ some) (leb-true _ _ six)) (λ r u. under_true _ _ _ u))))))
+unfolding meets counts loses near each under average_reported_loss_ratio loss_based_result
+meets_true use_bytes c h d = search rules
 
 -- ---- `Refusals`
 
@@ -116,19 +91,17 @@ judged c h (call ∷ calls) = eqb (number (step c call)) (refusal_of h call) && 
 told_more : (c : LossController) (calls : List Call) (call : Call) → all_told c (calls ++ (call ∷ [])) ≡ all_told c calls ++ (told_of (left_of c calls) call ∷ [])
 unfolding all_told
 told_more c [] call = refl
-told_more c (first ∷ calls) call = ap (λ (ts : List Told). told_of c first ∷ ts) (told_more (next c first) calls call)
+told_more c (first ∷ calls) call = search (rules, told_more (next c first) calls call)
 
 judged_true : Refusals2 → (use_bytes : Bool) (before calls : List Call) → judged (left use_bytes before) (after (told use_bytes before)) calls ≡ true
 unfolding judged
 judged_true r use_bytes before [] = refl
 judged_true r use_bytes before (call ∷ calls) =
-    let start = initial use_bytes in
     let more = before ++ (call ∷ []) in
-    let leaves : left use_bytes more ≡ next (left use_bytes before) call = fold-append next start before (call ∷ []) in
+    let leaves : left use_bytes more ≡ next (left use_bytes before) call = search (rules, fold-append) in
     let hears : after (told use_bytes more) ≡ fed (after (told use_bytes before)) (told_of (left use_bytes before) call) =
-    ap (λ (ts : List Told). after ts) (told_more start before call)
-    ∙ fold-append fed fresh (told use_bytes before) (told_of (left use_bytes before) call ∷ []) in
-    holds (eq-eqb _ _ ((r use_bytes before).each call)) (rw (leaves, hears) at (judged_true r use_bytes more calls))
+    search (rules, told_more, fold-append) in
+    search (rules, (r use_bytes before).each call, leaves, hears, judged_true r use_bytes more calls)
 
 -- ---- `Unrefused`
 
@@ -154,7 +127,7 @@ same (a ∷ answers) (b ∷ bs) = eqb (answer_reading a) (answer_reading b) && s
 same_self : (answers : List (Result LossController Refusal)) → same answers answers ≡ true
 unfolding same
 same_self [] = refl
-same_self (a ∷ answers) = holds (eq-eqb (answer_reading a) _ refl) (same_self answers)
+same_self (a ∷ answers) = search (rules, same_self answers)
 
 -- whether each refused call of a list hands the controller back
 hands_back : LossController → List Call → Bool
@@ -171,20 +144,12 @@ traceless c calls =
 hands_back_true : Unrefused1 → (c : LossController) (calls : List Call) → hands_back c calls ≡ true
 unfolding hands_back
 hands_back_true u c [] = refl
-hands_back_true u c (call ∷ calls) = holds (go (step c call) ((u c).each call)) (hands_back_true u (next c call) calls)
-  where
-    go : (a : Result LossController Refusal) → (IsErr a → next c call ≡ c) → (is_ok a || eqb (reading (next c call)) (reading c)) ≡ true
-    go (Ok d) back = refl
-    go (Err e) back = eq-eqb _ _ (ap reading (back refl))
+hands_back_true u c (call ∷ calls) = search (rules, (u c).each call, hands_back_true u (next c call) calls)
 
 traceless_true : Unrefused1 → (c : LossController) (calls : List Call) → traceless c calls ≡ true
 unfolding traceless
 traceless_true u c calls =
-    let w = (u c).whole calls in
-    let answers = without_refusals (answers_of c calls) in
-    holds (hands_back_true u c calls)
-    (holds (subst (λ (rest : List (Result LossController Refusal)). same answers rest ≡ true) w.answers (same_self answers))
-    (holds (list_all-from_AllPass is_ok (answers_of c (without_refused c calls)) w.none) (eq-eqb _ _ (ap reading w.leaves))))
+    let w = (u c).whole calls in search (rules, hands_back_true, same_self, list_all-from_AllPass, w.answers, w.none, w.leaves)
 
 -- ---- `RatioAtMostOne` and `Never6`
 
@@ -194,8 +159,7 @@ bounded (Ok x) = plain x && leb (num x) (den x)
 
 bounded_true : (ratio : Result Float Refusal) → BoundedRatio ratio → bounded ratio ≡ true
 unfolding bounded
-bounded_true (Err e) n = absurd n
-bounded_true (Ok x) n = holds (is_true (plain x) n.plainly) (le-leb _ _ n.below)
+bounded_true ratio n = search rules
 
 never : LossController → List Call → Bool
 never c [] = true
@@ -206,8 +170,8 @@ unfolding never
 never_true n use_bytes before [] = refl
 never_true n use_bytes before (call ∷ calls) =
     let more = before ++ (call ∷ []) in
-    let leaves : left use_bytes more ≡ next (left use_bytes before) call = fold-append next (initial use_bytes) before (call ∷ []) in
-    holds (ap not (ne_eqb _ outside_domain (n use_bytes before call))) (rw leaves at (never_true n use_bytes more calls))
+    let leaves : left use_bytes more ≡ next (left use_bytes before) call = search (rules, fold-append) in
+    search (rules, n, leaves, never_true n use_bytes more calls)
 
 -- ---- `StaysFinite` and `AtMost`
 
@@ -217,43 +181,22 @@ stays c later =
 
 stays_true : StaysFinite → (use_bytes : Bool) (calls later : List Call) → stays (left use_bytes calls) later ≡ true
 unfolding stays
-stays_true s use_bytes calls later =
-    let k = s use_bytes calls in
-    implied (finite (estimate_of (left use_bytes calls)))
-    (λ f. implied (list_all is_report later || list_all hands_finite later)
-    (λ e. is_true _ (one_of (list_all is_report later) (list_all hands_finite later) e (λ t. k.reports later t (told_true f)) (λ t. k.calls later t (told_true f)))))
-  where
-    told_true : {b : Bool} → b ≡ true → T b
-    told_true e = rw e tt
-
-    one_of : {A : Type 0} (a b : Bool) → (a || b) ≡ true → (T a → A) → (T b → A) → A
-    one_of true b e f g = f tt
-    one_of false b e f g = g (told_true e)
+stays_true s use_bytes calls later = search rules
 
 unfoldable pub up_to_most : Float → Bool
 up_to_most x = plain x && leb (num x) (most_bits * den x)
-
-up_to_most_true : (x : Float) → UpToMost x → up_to_most x ≡ true
-unfolding up_to_most
-up_to_most_true x u = holds (is_true (plain x) u.plainly) (le-leb _ _ u.below)
 
 limited : LossController → Bool
 limited c = (not (finite (estimate_of c)) || up_to_most (estimate_of c)) && each up_to_most (loss_based_result c).bandwidth_estimate
 
 limited_true : (c : LossController) → Limited c → limited c ≡ true
-unfolding limited
-limited_true c l =
-    holds (implied (finite (estimate_of c)) (λ f. up_to_most_true _ (l.estimate (rw f tt))))
-    (each_true up_to_most _ l.published (λ r u. up_to_most_true _ u))
+unfolding limited each up_to_most loss_based_result
+limited_true c l = search rules
 
 -- ---- on a list, under both profiles, with every definition that it computes by
 
 both : (Bool → Bool) → Bool
 both test = test true && test false
-
-both_true : (test : Bool → Bool) → ((use_bytes : Bool) → test use_bytes ≡ true) → both test ≡ true
-unfolding both
-both_true test t = holds (t true) (t false)
 
 -- `Demand3` and `Refusals2`, and what of the list they speak of: the count, and whether the window is lossy by bytes and by packets
 pub record Outcome : Type 0 where
@@ -264,7 +207,7 @@ pub record Outcome : Type 0 where
 unfoldable pub outcome : List Call → Outcome
 unfolding both meets near under each counts loses judged check_call check_report step told_of all_told
     fed heard switched with_report completed with_running aged exact_sum
-    Setters.check_rate Setters.check_start Setters.check_time Setters.set_bandwidth_estimate Setters.with_alr_start_time Setters.reset_observations
+    Setters.check_rate Setters.check_start check_time Setters.set_bandwidth_estimate Setters.with_alr_start_time Setters.reset_observations
     Setters.set_alr_start_time Report.has_valid_estimate Report.observed Report.with_delay_based_estimate Report.reported Report.update_bandwidth_estimate
     published loss_based_result average_reported_loss_ratio check_columns packets check_packet add_packet summary_of updated
     Ratio.age Ratio.window Ratio.readable Ratio.average_reported_loss_ratio loss_ceiling Ratio.instant_limit Ratio.instant_upper_bound
@@ -280,10 +223,8 @@ outcome calls =
     }
 
 pub outcome_met : Demand3 → Refusals2 → (calls : List Call) → (outcome calls).met ≡ true
-unfolding outcome
-outcome_met d r calls =
-    both_true _
-    (λ use_bytes. holds (meets_true use_bytes (left use_bytes calls) (after (told use_bytes calls)) (d use_bytes calls)) (judged_true r use_bytes [] calls))
+unfolding outcome both
+outcome_met d r calls = search (rules, meets_true, d, λ (use_bytes : Bool). judged_true r use_bytes [] calls)
 
 -- `Unrefused1`
 unfoldable pub untraced : List Call → Bool
@@ -291,8 +232,8 @@ unfolding outcome traceless hands_back same reading answer_reading answers_of wi
 untraced calls = both (λ use_bytes. traceless (initial use_bytes) calls)
 
 pub untraced_met : Unrefused1 → (calls : List Call) → untraced calls ≡ true
-unfolding untraced
-untraced_met u calls = both_true _ (λ use_bytes. traceless_true u (initial use_bytes) calls)
+unfolding untraced both
+untraced_met u calls = search (rules, traceless_true)
 
 -- `RatioAtMostOne` and `Never6`
 unfoldable pub unreached : List Call → Bool
@@ -300,9 +241,8 @@ unfolding outcome bounded never
 unreached calls = both (λ use_bytes. bounded (average_reported_loss_ratio (left use_bytes calls)) && never (initial use_bytes) calls)
 
 pub unreached_met : RatioAtMostOne → Never6 → (calls : List Call) → unreached calls ≡ true
-unfolding unreached
-unreached_met r n calls =
-    both_true _ (λ use_bytes. holds (bounded_true (average_reported_loss_ratio (left use_bytes calls)) (r use_bytes calls)) (never_true n use_bytes [] calls))
+unfolding unreached both
+unreached_met r n calls = search (rules, bounded_true, r, λ (use_bytes : Bool). never_true n use_bytes [] calls)
 
 -- `StaysFinite`, with the calls after which the estimate is asked again, and `AtMost`, after all of them
 unfoldable pub unescaped : List Call → List Call → Bool
@@ -310,6 +250,5 @@ unfolding outcome stays limited up_to_most
 unescaped calls later = both (λ use_bytes. stays (left use_bytes calls) later && limited (left use_bytes (calls ++ later)))
 
 pub unescaped_met : StaysFinite → AtMost → (calls later : List Call) → unescaped calls later ≡ true
-unfolding unescaped
-unescaped_met s m calls later =
-    both_true _ (λ use_bytes. holds (stays_true s use_bytes calls later) (limited_true (left use_bytes (calls ++ later)) (m use_bytes (calls ++ later))))
+unfolding unescaped both
+unescaped_met s m calls later = search (rules, stays_true, limited_true)

@@ -1,6 +1,6 @@
 -- The invariant that ties the controller's observations to a history, and what keeps it: a start, a reset, running sums that go on, an observation that
 -- completes. Assumes nothing.
-use Rattle.std.proofs.Common.{◌≡◌, ℕ, ◌%◌, ◌^◌, ◌≤◌, Bool, false, Option, Some, None, IsOkAnd, refl, sym, arith, le-leb}
+use Rattle.std.proofs.Common.{rules, ◌≡◌, ℕ, ◌^◌, ◌≤◌, Bool, Option, Some, None, IsOkAnd}
 use mathlib.Core.Option.{some}
 use lib.Ieee.{eq, in_float, lt, of_bits}
 use Rattle.std.proofs.lemmas.List.{map-set}
@@ -16,7 +16,7 @@ use Rattle.observation.specs.declared.PartialObservation.{PartialObservation}
 use Rattle.observation.specs.declared.Observation.{Observation}
 use Rattle.observation.specs.declared.Observations.{Observations}
 use Rattle.history.specs.History.{Sums, History, fresh, completed, with_running}
-use Rattle.history.proofs.Kept.{Part, SoundSums, emptied_kept, completed_kept, running_kept}
+use Rattle.history.proofs.Kept.{Part, SoundSums, emptied_kept, completed_kept}
 use Rattle.history.proofs.Slots.{held, slots_empty, slots_turn}
 use Rattle.history.proofs.Weighed.{Windowed, ceiling_of}
 
@@ -40,22 +40,12 @@ pub record Tied (o : Observations) (h : History) : Type 0 where
 no_ceiling : (use_bytes : Bool) (n : ℕ)
     → let o = Window.cleared use_bytes n in Ratio.cached o.cached_instant_upper_bound ≡ Ratio.valid_or_max (ceiling_of o)
 unfolding Window.cleared Ratio.cached Ratio.valid_or_max Ratio.window Ratio.instant_limit loss_ratio eq lt of_bits
-no_ceiling use_bytes n = refl
+no_ceiling use_bytes n = search rules
 
 -- cleared observations are tied to a history without observations, of the same count
 pub reset_tied : (use_bytes : Bool) (n : ℕ) (on : Bool) → Tied (Window.cleared use_bytes n) (record fresh { on = on; count = n })
 unfolding Window.cleared held
-reset_tied use_bytes n on =
-    record {
-      windowed = record { count = refl; slots = sym (slots_empty n); kept = emptied_kept on n };
-      ceiling = no_ceiling use_bytes n;
-      running = refl;
-      time = refl;
-    }
-
--- at the start, a fresh history
-pub fresh_tied : (use_bytes : Bool) → Tied (Window.cleared use_bytes 0) fresh
-fresh_tied use_bytes = reset_tied use_bytes 0 false
+reset_tied use_bytes n on = search (rules, slots_empty, emptied_kept, no_ceiling)
 
 -- ---- a new observation
 
@@ -68,39 +58,24 @@ pub record Holds (new : Observation) (id : ℕ) (s : Sums) : Type 0 where
 pub observed_taken : (q : PartialObservation) (id : ℕ) (span : TimeDelta) → q.num_lost_packets ≤ q.num_packets → q.size ≤ 10 ^ 12
     → IsOkAnd (Window.observed q id span) (λ new. Holds new id (running_sums q))
 unfolding Window.observed Delta.rate Size.float in_float held
-observed_taken q id span l room =
-    rw (le-leb q.num_lost_packets q.num_packets l, le-leb q.size (2 ^ 53) (omega (arith, room))) (record { same_id = refl; holds = refl })
+observed_taken q id span l room = search rules
 
 module _ (o : Observations) (h : History) (t : Tied o h) where
   -- the sums go on
   pub running_tied : (q : PartialObservation) (s : Sums) (time : ℕ) → running_sums q ≡ s → Part s
       → Tied (Window.with_partial o q (Exact time)) (with_running h s time)
   unfolding Window.with_partial with_running
-  running_tied q s time same part =
-      let w = t.windowed in
-      record {
-        windowed = record { count = w.count; slots = w.slots; kept = running_kept h s time w.kept part };
-        ceiling = t.ceiling;
-        running = same;
-        time = refl;
-      }
+  running_tied q s time same part = search rules
 
   -- an observation is stored
   pub stored_windowed : (new : Observation) (s : Sums) (sent : ℕ) → Holds new o.num_observations s → SoundSums s
       → Windowed (Window.stored o new (Exact sent)) (completed h s sent)
   unfolding Window.stored completed
   stored_windowed new s sent k sound =
-      let w = t.windowed in
-      record {
-        count = rw w.count;
-        slots = rw (map-set held o.observations (new.id % 15) new, k.holds, k.same_id, w.slots, w.count) (slots_turn h.count s h.observations);
-        kept = completed_kept h s sent w.kept sound;
-      }
+      record { count = cc; slots = search (rules, map-set, slots_turn); kept = search (rules, completed_kept) }
 
   -- and its window's ceiling
   pub stored_tied : (new : Observation) (s : Sums) (sent : ℕ) → Holds new o.num_observations s → SoundSums s
       → let stored = Window.stored o new (Exact sent) in Tied (Window.with_ceiling stored (ceiling_of stored)) (completed h s sent)
   unfolding Window.with_ceiling Window.stored completed Ratio.cached
-  stored_tied new s sent k sound =
-      let w = stored_windowed new s sent k sound in
-      record { windowed = record { count = w.count; slots = w.slots; kept = w.kept }; ceiling = refl; running = refl; time = refl }
+  stored_tied new s sent k sound = search (rules, stored_windowed new s sent k sound)

@@ -1,20 +1,17 @@
 -- What the loss ratio and the ceiling of observations are to the history whose window they hold. Assumes nothing.
-use Rattle.std.proofs.Common.{◌≡◌, ℕ, ◌+◌, ◌-◌, ◌*◌, ◌≤◌, ◌<◌, Bool, true, List, [], ◌∷◌, length, map, T, Ok, Float, refl, inl, inr, eq-zero-or-pos, mul-pos, lit<, arith}
+use Rattle.std.proofs.Common.{rules, ◌≡◌, ℕ, ◌+◌, ◌-◌, ◌*◌, ◌≤◌, ◌<◌, Bool, true, List, [], ◌∷◌, length, map, Ok, Float, mul-pos, arith}
 use mathlib.Core.List.{Permᴰ}
 use native.Mathlib.Nat.{one-le-pow}
 use lib.ListN.{length-map}
-use lib.Ieee.{nan, inf, fin}
-use lib.Ieee.Scale.{finite}
 use Rattle.std.proofs.lemmas.List.Sums.{sum_by-cons}
-use Rattle.float.proofs.Each.{Each, each_perm}
+use Rattle.std.specs.List.{All}
 use Rattle.bandwidth.specs.Rate as Rate
 use Rattle.bandwidth.specs.declared.Bitrate.{Bitrate}
-use Rattle.rounding.specs.Exact.{Measured, Sound, exact_weight, exact_sum, exact_total, Close, AtMostOne}
-use Rattle.rounding.specs.Plain.{plain}
+use Rattle.rounding.specs.Exact.{Measured, Sound, exact_sum, exact_total, Close, AtMostOne}
 use Rattle.rounding.specs.Ratio.{loss_ratio, loss_ceiling}
 use Rattle.rounding.proofs.Ratio.{ratio_at_most_one}
 use Rattle.rounding.proofs.Ceiling.{Capped}
-use Rattle.rounding.proofs.AnyOrder.{length_perm, close_any_order, ceiling_any_order}
+use Rattle.rounding.proofs.AnyOrder.{all_perm, length_perm, close_any_order, ceiling_any_order}
 use Rattle.observation.specs.Ratio as Ratio
 use Rattle.observation.specs.declared.Observations.{Observations}
 use Rattle.history.specs.History.{History}
@@ -22,26 +19,17 @@ use Rattle.history.specs.WeighedPairs.{Pair, pair_of, pairs, aged, window, weigh
 use Rattle.history.proofs.Kept.{Kept, window_short, window_sound}
 use Rattle.history.proofs.Slots.{held, slots, slots_window, sound_readable}
 
+-- where something is counted, there is a pair
+some_pair : (ps : List Pair) → 0 < all_totals ps → 0 < length ps
+some_pair [] h = h
+some_pair (p ∷ ps) h = omega arith
+
 -- what is counted weighs something, whatever its age
 aged_some : (newer : ℕ) (ps : List Pair) → 0 < all_totals ps → 0 < exact_total (aged newer ps)
 unfolding aged exact_sum
 aged_some newer [] h = h
 aged_some newer (p ∷ ps) h =
-    let all : all_totals (p ∷ ps) ≡ p.total + all_totals ps = sum_by-cons (λ (p : Pair). p.total) p ps in
-    elim (eq-zero-or-pos p.total) [
-      | inl none ↦ let rest = aged_some (newer + 1) ps (omega (arith, h, all, none)) in omega arith
-      | inr some ↦ let first : 0 < exact_weight newer * p.total =
-          mul-pos (mul-pos (one-le-pow newer 9 (lit< tt)) (one-le-pow (14 - newer) 10 (lit< tt))) some in omega arith
-    ]
-
-some_pair : (ps : List Pair) → 0 < all_totals ps → 0 < length ps
-some_pair [] h = h
-some_pair (p ∷ ps) h = omega arith
-
-plain_finite : (x : Float) → T (plain x) → finite x ≡ true
-plain_finite nan h = absurd h
-plain_finite (inf s) h = absurd h
-plain_finite (fin s m e) h = refl
+    grind (arith, aged_some (newer + 1) ps, mul-pos, one-le-pow newer 9, one-le-pow (14 - newer) 10, sum_by-cons (λ (p : Pair). p.total) p ps)
 
 -- what the loss ratio reads of the slots, and the count, are the history's
 pub record Windowed (o : Observations) (h : History) : Type 0 where
@@ -65,9 +53,9 @@ module _ (o : Observations) (h : History) (w : Windowed o h) where
   read = Ratio.window use_bytes o.num_observations o.observations
 
   any_order : Permᴰ read (window use_bytes h)
-  any_order = rw w.count (slots_window use_bytes h.count h.observations o.observations w.slots w.kept.counted w.kept.few)
+  any_order = search (rules, slots_window)
 
-  sound : Each Sound (window use_bytes h)
+  sound : All Sound (window use_bytes h)
   sound = window_sound use_bytes h w.kept
 
   short : length (window use_bytes h) ≤ 15
@@ -75,20 +63,20 @@ module _ (o : Observations) (h : History) (w : Windowed o h) where
 
   -- it can be read
   pub readable : Ratio.readable use_bytes o.observations ≡ true
-  readable = sound_readable use_bytes o.num_observations o.observations (each_perm any_order sound)
+  readable = search (rules, sound_readable, all_perm Sound any_order sound)
 
   -- so the ratio is not refused, nor is the ceiling
   pub ratio_taken : Ratio.average_reported_loss_ratio o ≡ Ok (ratio_of o)
   unfolding Ratio.average_reported_loss_ratio
-  ratio_taken = rw readable
+  ratio_taken = search (rules, readable)
 
   pub ceiling_taken : Ratio.instant_upper_bound o ≡ Ok (ceiling_of o)
   unfolding Ratio.instant_upper_bound
-  ceiling_taken = rw ratio_taken
+  ceiling_taken = search (rules, ratio_taken)
 
   -- and the ratio is 1 at most
   pub ratio_bounded : AtMostOne (ratio_of o)
-  ratio_bounded = ratio_at_most_one read (each_perm any_order sound) (rw (length_perm any_order) short)
+  ratio_bounded = ratio_at_most_one read (all_perm Sound any_order sound) (rw (length_perm any_order) short)
 
   module _ (some : 0 < all_totals (pairs use_bytes h)) where
     -- an observation is complete
@@ -97,7 +85,7 @@ module _ (o : Observations) (h : History) (w : Windowed o h) where
 
     -- the ratio is within r/2^46 of the history's r
     pub ratio_near : Close (ratio_of o) (weighed_lost use_bytes h) (weighed_total use_bytes h)
-    ratio_near = close_any_order read (window use_bytes h) any_order sound short (aged_some 0 (pairs use_bytes h) some)
+    ratio_near = search (rules, close_any_order, any_order, sound, short, aged_some)
 
     -- where r is at least 0.06, the ceiling is that of the ratio, within one part in 2^40 of the history's
     pub ceiling_near : 6 * weighed_total use_bytes h ≤ 100 * weighed_lost use_bytes h
@@ -106,4 +94,4 @@ module _ (o : Observations) (h : History) (w : Windowed o h) where
     unfolding Ratio.instant_limit Ratio.valid_or_max
     ceiling_near six =
         let sets = ceiling_any_order read (window use_bytes h) any_order sound short (aged_some 0 (pairs use_bytes h) some) six in
-        (rw (sets.taken, plain_finite (loss_ceiling (ratio_of o)) sets.capped.plainly), sets.capped)
+        search (rules, sets.taken, sets.capped)

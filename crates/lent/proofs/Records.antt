@@ -1,17 +1,17 @@
 -- Records summed one by one give what their columns give. Assumes nothing.
-use Rattle.std.proofs.Common.{◌≡◌, ℕ, ◌+◌, ◌≤◌, ◌<◌, List, length, get_or, drop, Ok, Err, refl, sym, ◌∙◌, arith, le-leb}
+use Rattle.std.proofs.Common.{◌≡◌, ℕ, ◌+◌, ◌≤◌, ◌<◌, List, length, get_or, drop, Ok, Err, sym, ◌∙◌, arith, le-leb}
 use Rattle.std.proofs.lemmas.Bool.{lt-leb}
 use Rattle.refusal.specs.Outcome.{and_then, try_fold}
 use Rattle.refusal.specs.declared.Refusal.{Refusal}
 use Rattle.refusal.specs.declared.Refusal.TheVariants.{TooManyPackets}
 use Rattle.refusal.proofs.Outcome.{fold_turn, fold_end}
 use Rattle.bandwidth.specs.declared.Bitrate.{Bitrate}
-use Rattle.packets.specs.Summary.{most_packets, latest_time, empty, add_packet, added}
+use Rattle.packets.specs.Summary.{most_packets, latest_time, check_time, empty, add_packet, added}
 use Rattle.packets.specs.declared.PacketResult.{PacketResult}
 use Rattle.packets.specs.declared.PacketResultsSummary.{PacketResultsSummary}
-use Rattle.packets.proofs.Totals.{TotalsOf, none_within, within_larger, within_more, added_is, summary_early}
+use Rattle.packets.proofs.Totals.{TotalsOf, within_larger, within_more, added_is, summary_early}
 use Rattle.packets.proofs.Reports.{columns_even, summary_of_lem, report_passes}
-use Rattle.loss_controller.specs.Setters.{check_rate, check_time}
+use Rattle.loss_controller.specs.Setters.{check_rate}
 use Rattle.loss_controller.specs.Report.{reported, update_bandwidth_estimate, update_with_summary}
 use Rattle.loss_controller.specs.declared.LossController.{LossController}
 use Rattle.lent.specs.Records.{times, sizes, flags, update_records}
@@ -23,9 +23,6 @@ pub record Summed (ps : List PacketResult) (i : ℕ) (s : PacketResultsSummary) 
   pub few : length ps ≤ most_packets
   pub within : TotalsOf i s
   pub left : try_fold add_packet s (drop i ps) ≡ try_fold add_packet empty ps
-
-pub summed_none : (ps : List PacketResult) → length ps ≤ most_packets → Summed ps 0 empty
-summed_none ps few = record { few = few; within = none_within 0; left = refl }
 
 module _ (ps : List PacketResult) (i : ℕ) (s : PacketResultsSummary) (k : Summed ps i s) where
   module _ (d : PacketResult) (l : i < length ps) where

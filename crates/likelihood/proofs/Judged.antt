@@ -3,12 +3,13 @@
 use Rattle.std.proofs.Common.{Bool, List, T, Result, refl}
 use Rattle.std.specs.Result.{IsOk}
 use Rattle.refusal.specs.declared.Refusal.{Refusal}
+use Rattle.refusal.proofs.Gives.{ok_of_number, gives_ok, then_answered}
 use Rattle.std.proofs.lemmas.Float.{T_from_true}
 use lib.Ieee.{Float, eq, is_nan, of_bits}
 use lib.Ieee.Bits.{is_true}
 use lib.Ieee.Scale.{finite}
 use Rattle.float.specs.Rounded.{bits, one, ◌⊕◌, ◌⊖◌}
-use Rattle.float.proofs.Each.{Each}
+use Rattle.std.specs.List.{All}
 use Rattle.float.proofs.Extremes.{minimum_by}
 use Rattle.float.proofs.NotNan.{NotNan}
 use Rattle.float.proofs.Refusal.{either, tested}
@@ -22,7 +23,7 @@ use Rattle.likelihood.specs.Objective.{terms, add_terms, objective}
 use Rattle.likelihood.specs.Probability.{row_probability}
 use Rattle.likelihood.specs.declared.ChannelParameters.{ChannelParameters}
 use Rattle.likelihood.specs.declared.Row.{Row}
-use Rattle.likelihood.proofs.Answered.{ok_of_number, ok_answer, then_answered, fold_answers, fold_answered}
+use Rattle.likelihood.proofs.Answered.{fold_gives, fold_answered}
 use Rattle.likelihood.proofs.Probable.{Probable, probability_probable}
 
 -- a feasible inherent loss is not NaN, whatever the parameters
@@ -39,7 +40,7 @@ Taken a = IsOk a
 bias_taken : (r : Bitrate) (ratio : Float) → NotNegativeRate r → Taken (bias r ratio)
 unfolding bias
 bias_taken r ratio n =
-    tested Taken (finite r.bps) (λ f. rw (ok_answer _ (ok_of_number _ (one_more r.bps n (T_from_true _ f)))).1 refl) (λ f. refl)
+    tested Taken (finite r.bps) (λ f. rw (gives_ok _ (ok_of_number _ (one_more r.bps n (T_from_true _ f)))).is refl) (λ f. refl)
 
 -- the rate at which a row's packets were sent is one of binary64
 abbrev pub SentRow : Row → Type 0
@@ -50,16 +51,16 @@ module _ (use_bytes : Bool) (c : ChannelParameters) (n : NotNegativeRate c.loss_
   unfolding add_terms terms
   terms_taken b o row sent =
       let p : Probable (row_probability c row) = probability_probable c.inherent_loss c.loss_limited_bandwidth row.sending_rate i n.above sent in
-      tested Taken row.is_initialized (λ there. rw ((ok_answer _ p.lost).1, (ok_answer _ p.received).1) refl) (λ there. refl)
+      tested Taken row.is_initialized (λ there. rw ((gives_ok _ p.lost).is, (gives_ok _ p.received).is) refl) (λ there. refl)
 
   -- over any rows that were sent at rates of binary64, no logarithm is refused
-  pub objective_taken : (rows : List Row) (ratio : Float) → Each SentRow rows → IsOk (objective use_bytes rows ratio c)
+  pub objective_taken : (rows : List Row) (ratio : Float) → All SentRow rows → IsOk (objective use_bytes rows ratio c)
   unfolding objective
   objective_taken rows ratio sent =
-      let bias = ok_answer _ (bias_taken c.loss_limited_bandwidth ratio n) in
-      let sum = fold_answers (add_terms use_bytes c bias.0) (λ o. Unit {0}) (λ o row any sent.
-      let answer = ok_answer _ (terms_taken bias.0 o row sent) in (answer.0, answer.1, tt)) (bits 0) tt sent in
-      rw (bias.1, sum.1) refl
+      let bias = gives_ok _ (bias_taken c.loss_limited_bandwidth ratio n) in
+      let sum =
+      fold_gives (add_terms use_bytes c bias.value) (λ o. Unit {0}) (λ o row any sent. gives_ok _ (terms_taken bias.value o row sent)) (bits 0) rows tt sent in
+      rw (bias.is, sum.is) refl
 
 -- ---- what an objective has asked
 
@@ -70,7 +71,7 @@ RowTaken c row = T row.is_initialized → Probable (row_probability c row)
 -- the logarithms of an objective, none refused: of 1 + rate, where the rate is finite, and of each row in use
 pub record LogarithmsTaken (rows : List Row) (c : ChannelParameters) : Type 0 where
   pub rate : T (finite c.loss_limited_bandwidth.bps) → IsOk (logarithm (one ⊕ c.loss_limited_bandwidth.bps))
-  pub each : Each (RowTaken c) rows
+  pub each : All (RowTaken c) rows
 
 module _ (use_bytes : Bool) (c : ChannelParameters) where
   bias_logarithm : (ratio : Float) → IsOk (bias c.loss_limited_bandwidth ratio) → T (finite c.loss_limited_bandwidth.bps)

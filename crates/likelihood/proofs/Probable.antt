@@ -25,7 +25,7 @@ use Rattle.rounding.proofs.Operations.{sub_is, div_is, lt_is}
 use Rattle.rounding.proofs.Order.{Under, round_under}
 use Rattle.rounding.proofs.Upward.{upward_plain}
 use Rattle.likelihood.specs.Probability.{least, congested, probability}
-use Rattle.likelihood.proofs.Answered.{ok_of_number}
+use Rattle.refusal.proofs.Gives.{ok_of_number}
 
 -- ---- what is finite
 

@@ -3,8 +3,8 @@
 #![tactic(auto)]
 
 ghost use Rattle.std.specs.Prelude.{◌≡◌};
-ghost use Rattle.likelihood.specs.Feasible.{upper_bound, feasible};
-ghost use Rattle.likelihood.specs.Probability.{probability};
+ghost use Rattle.likelihood.specs.Feasible.{initial, upper_bound, feasible};
+ghost use Rattle.likelihood.specs.Probability.{probability, row_probability};
 ghost use Rattle.likelihood.specs.Newton.{safe, derivatives, newton};
 ghost use Rattle.likelihood.specs.Bias.{adjusted, bias as bias_of};
 ghost use Rattle.likelihood.specs.Objective.{objective};
@@ -19,6 +19,19 @@ pub struct ChannelParameters {
     pub loss_limited_bandwidth: Bitrate,
 }
 
+// Nothing is sent yet: the Rust's ChannelParameters::new, whose rate is minus infinity.
+impl Default for ChannelParameters {
+    ghost is_default = { λ parameters. parameters ≡ initial };
+
+    #[tactic(auto, using(float::proofs::Std::neg_infinity_is))]
+    fn default() -> ChannelParameters {
+        ChannelParameters {
+            inherent_loss: config::INITIAL_INHERENT_LOSS_ESTIMATE,
+            loss_limited_bandwidth: Bitrate::NEG_INFINITY,
+        }
+    }
+}
+
 // One observation as the likelihood sees it: its weight, its sizes in kB or its packets as floats,
 // its rate.
 #[derive(Clone, Copy)]
@@ -29,6 +42,18 @@ pub struct Row {
     pub received: f64,
     pub total: f64,
     pub sending_rate: Bitrate,
+}
+
+impl Row {
+    // That of a slot without an observation
+    pub const EMPTY: Row = Row {
+        is_initialized: false,
+        weight: 0.0,
+        lost: 0.0,
+        received: 0.0,
+        total: 0.0,
+        sending_rate: Bitrate::ZERO,
+    };
 }
 
 // The first two derivatives of the likelihood by the inherent loss.
@@ -89,6 +114,18 @@ pub fn get_loss_probability(
     loss_probability.clamp(1.0e-6, 1.0 - 1.0e-6)
 }
 
+impl ChannelParameters {
+    fn loss_probability(self, row: &Row) -> f64
+        ensures { result ≡ row_probability self row.now }
+    {
+        get_loss_probability(
+            self.inherent_loss,
+            self.loss_limited_bandwidth,
+            row.sending_rate,
+        )
+    }
+}
+
 // ---- Newton's method
 
 const SAFE_SECOND_DERIVATIVE: f64 = -1.0e-6;
@@ -98,7 +135,7 @@ const SAFE_SECOND_DERIVATIVE: f64 = -1.0e-6;
 fn safe_second_derivative(second: f64) -> f64
     ensures { result ≡ safe second }
 {
-    if !float::is_sign_negative(second) || second == 0.0 || float::is_nan(second) {
+    if !float::is_sign_negative(second) || second == 0.0 || second.is_nan() {
         return SAFE_SECOND_DERIVATIVE;
     }
     second
@@ -116,11 +153,7 @@ pub fn get_derivatives(rows: [Row; 15], channel_parameters: ChannelParameters) -
         if !row.is_initialized {
             continue;
         }
-        let loss_probability = get_loss_probability(
-            channel_parameters.inherent_loss,
-            channel_parameters.loss_limited_bandwidth,
-            row.sending_rate,
-        );
+        let loss_probability = channel_parameters.loss_probability(row);
         derivatives.first += row.weight
             * ((row.lost / loss_probability) - (row.received / (1.0 - loss_probability)));
         derivatives.second -= row.weight
@@ -150,12 +183,12 @@ pub fn newtons_method_update(
 // ---- bias
 
 // Grouped as in libWebRTC, by request (Q-9); the Rust has bias_factor * (diff / smoothing + |diff|).
-#[tactic(auto, unfolding(crate::specs::Bias::adjusted))]
+#[tactic(auto, using(float::proofs::Std::magnitude_is), unfolding(crate::specs::Bias::adjusted))]
 pub fn adjust_bias_factor(loss_rate: f64, bias_factor: f64) -> f64
     ensures { result ≡ adjusted loss_rate bias_factor }
 {
     let diff = config::THRESHOLD_OF_HIGH_BANDWIDTH_PREFERENCE - loss_rate;
-    bias_factor * diff / (config::BANDWIDTH_PREFERENCE_SMOOTHING_FACTOR + float::abs(diff))
+    bias_factor * diff / (config::BANDWIDTH_PREFERENCE_SMOOTHING_FACTOR + diff.abs())
 }
 
 // Refused where 1.0 + bandwidth has no logarithm.
@@ -200,11 +233,7 @@ fn objective_by<const BY_BYTES: bool>(
         if !row.is_initialized {
             continue;
         }
-        let loss_probability = get_loss_probability(
-            candidate.inherent_loss,
-            bandwidth,
-            row.sending_rate,
-        );
+        let loss_probability = candidate.loss_probability(row);
         let ln_lost = logarithm::ln(loss_probability)?;
         let ln_received = logarithm::ln(1.0 - loss_probability)?;
         if BY_BYTES {

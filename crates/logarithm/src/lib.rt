@@ -106,5 +106,5 @@ const WEIGHTS: [f64; 15] = [
 pub fn weight(age: u64) -> f64
     ensures { result ≡ weight age }
 {
-    if age < 15 { WEIGHTS[age as usize] } else { 0.0 }
+    WEIGHTS.get(age as usize).copied().unwrap_or(0.0)
 }

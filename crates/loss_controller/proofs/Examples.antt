@@ -36,7 +36,7 @@ use Rattle.integer.specs.Fitted as Fitted
 use Rattle.duration.specs.Seconds as Seconds
 use Rattle.rounding.specs.Ratio as Loss
 use Rattle.float.specs.Answer as Answer
-use Rattle.packets.specs.Summary.{check_columns, packets, check_packet, add_packet, summary_of, is_of_report}
+use Rattle.packets.specs.Summary.{check_time, check_columns, packets, check_packet, add_packet, summary_of, is_of_report}
 use Rattle.observation.specs.Window as Window
 use Rattle.estimator.specs.State.{number}
 use Rattle.loss_controller.specs.Controller.{initial}
@@ -56,8 +56,8 @@ rates :
 unfolding Setters.check_rate sign_bit lt of_bits to_bits
 rates = refl
 
-times : map (λ n. refusal_number (Setters.check_time n)) (0 ∷ 4000000000000000000 ∷ 4000000000000000001 ∷ []) ≡ 0 ∷ 0 ∷ 3 ∷ []
-unfolding Setters.check_time
+times : map (λ n. refusal_number (check_time n)) (0 ∷ 4000000000000000000 ∷ 4000000000000000001 ∷ []) ≡ 0 ∷ 0 ∷ 3 ∷ []
+unfolding check_time
 times = refl
 
 -- ---- the example of document 01, as state, published, rate and inherent loss of an answer line
@@ -90,7 +90,7 @@ alr :
     Setters.set_alr_start_time on (Some 7) ≡ Ok (Setters.with_alr_start_time on (Some 7))
     × Setters.set_alr_start_time on None ≡ Ok (Setters.reset_observations (Setters.with_alr_start_time on None))
     × Setters.set_alr_start_time on (Some 4000000000000000001) ≡ Err TooLate
-unfolding Setters.set_alr_start_time Setters.with_alr_start_time Setters.reset_observations Setters.check_start Setters.check_time
+unfolding Setters.set_alr_start_time Setters.with_alr_start_time Setters.reset_observations Setters.check_start check_time
 alr = (refl, refl, refl)
 
 -- ---- a report
@@ -124,7 +124,7 @@ totals :
     × by_totals 3 3 4000000000000000001 0x8000000000000000 ≡ Err RateRefused
     × by_totals 3 3 4000000000000000001 megabit ≡ Err TooLate
     × by_totals 3 3 7 megabit ≡ report (7 ∷ 7 ∷ 0 ∷ []) (0 ∷ 0 ∷ 0 ∷ []) (1 ∷ 1 ∷ 1 ∷ []) megabit
-unfolding Report.update_bandwidth_estimate Report.update_with_summary Setters.check_rate Setters.check_time
+unfolding Report.update_bandwidth_estimate Report.update_with_summary Setters.check_rate check_time
     check_columns packets check_packet add_packet summary_of is_of_report sign_bit lt of_bits to_bits
 totals = (refl, refl, refl, refl, refl)
 
@@ -168,8 +168,8 @@ decreasing :
 unfolding line Bias.adjusted Bias.bias Feasible.upper_bound Feasible.feasible Newton.safe Newton.add_derivatives Newton.derivatives Newton.newton
     Objective.with_terms Objective.terms Objective.add_terms Objective.objective Probability.congested Probability.probability Ln.logarithm_of_bits
     Ln.logarithm Power.power_steps Power.power
-    Power.weight Bound.at_most Bound.capacity Bound.in_window Bound.acceleration Bound.upper_bound Candidate.scaled Candidate.above Candidate.bandwidths
-    Candidate.cut Candidate.candidate Candidate.placed Candidate.candidates Choice.judged Choice.better Choice.used Choice.choice
+    Power.weight Bound.at_most Bound.capacity Bound.within Bound.in_window Bound.acceleration Bound.upper_bound Candidate.scaled Candidate.above Candidate.bandwidths
+    Candidate.cut Candidate.candidate Candidate.candidates Choice.judged Choice.better Choice.choice
     Hold.twice Hold.doubled Hold.entered Increase.not_increased_above_inherent_loss Increase.is_estimate_increasing_when_loss_limited Increase.rampup_factor
     Increase.within_rampup Increase.ramped_up Increase.increase_limited_due_to_loss Increase.increase_limited Update.with_reduction_noted
     Update.is_in_hold Update.held Update.is_limiting Update.new_state Update.new_hold_info Update.with_new_state Update.decided Update.updated Update.applied

@@ -1,13 +1,13 @@
 -- A report that is not refused has met no refused logarithm, whatever the controller: none of them is met and passed over. Assumes nothing.
-use Rattle.std.proofs.Common.{◌≡◌, ℕ, true, false, List, T, take, IsOk, Ok, arith}
+use Rattle.std.proofs.Common.{◌≡◌, ℕ, true, false, List, T, IsOk, Ok, arith}
 use lib.Dec.{eqb}
 use lib.Ieee.Bits.{is_true}
-use Rattle.refusal.proofs.Gives.{Gives}
-use Rattle.float.proofs.Each.{Each, each_weaken}
+use Rattle.refusal.proofs.Gives.{Gives, then_answered}
+use Rattle.std.specs.List.{All}
+use Rattle.std.proofs.lemmas.List.Elements.{All-weaker}
 use Rattle.bandwidth.specs.declared.Bitrate.{Bitrate}
 use Rattle.likelihood.specs.Newton.{newton}
 use Rattle.likelihood.specs.declared.ChannelParameters.{ChannelParameters}
-use Rattle.likelihood.proofs.Answered.{then_answered}
 use Rattle.likelihood.proofs.Judged.{LogarithmsTaken, objective_logarithms}
 use Rattle.packets.specs.Summary.{check_columns, summary_of}
 use Rattle.packets.specs.declared.PacketResultsSummary.{PacketResultsSummary}
@@ -17,7 +17,7 @@ use Rattle.observation.specs.Window as Window
 use Rattle.observation.specs.declared.Added.{Added}
 use Rattle.candidates.specs.Candidate as Candidate
 use Rattle.candidates.specs.Choice as Choice
-use Rattle.candidates.proofs.Chosen.{choice_objectives}
+use Rattle.candidates.proofs.Chosen.{ObjectiveTaken, choice_objectives}
 use Rattle.loss_controller.specs.Report as Report
 use Rattle.loss_controller.specs.Setters.{check_rate}
 use Rattle.loss_controller.specs.declared.LossController.{LossController}
@@ -28,7 +28,7 @@ AllLogarithmsTaken c =
     let current = c.estimator.current_estimate in
     let offered = Candidate.candidates current (Report.bounds c) in
     Gives (Rows.rows c.observations)
-    (λ rows. Each (λ (p : ChannelParameters). LogarithmsTaken rows (newton rows p)) (take (Choice.used offered.count) offered.places))
+    (λ rows. All (λ (p : ChannelParameters). LogarithmsTaken rows (newton rows p)) offered)
 
 updated_logarithms : (c : LossController) → IsOk (Report.updated_estimator c) → AllLogarithmsTaken c
 unfolding Report.updated_estimator
@@ -39,8 +39,8 @@ updated_logarithms c t =
     then_answered (Rows.rows c.observations) _ t (λ rows seen rest.
     then_answered (Ratio.average_reported_loss_ratio c.observations) _ rest (λ ratio known after.
     then_answered (Choice.choice use_bytes current offered rows ratio) _ after (λ best chosen end.
-    let none = choice_objectives use_bytes rows ratio current offered (rw chosen) in
-    record { value = rows; is = seen; holds = each_weaken (λ p. objective_logarithms use_bytes (newton rows p) rows ratio) none })))
+    let taken = choice_objectives use_bytes rows ratio current offered (rw chosen) in
+    record { value = rows; is = seen; holds = All-weaker (ObjectiveTaken use_bytes rows ratio) _ (λ p. objective_logarithms use_bytes (newton rows p) rows ratio) offered taken })))
 
 -- ---- the report
 

@@ -4,11 +4,11 @@ use Rattle.std.proofs.Common.{◌≡◌, ℕ, ◌≤◌, true, List, Ok, refl, l
 use Rattle.refusal.specs.Outcome.{and_then, try_fold}
 use Rattle.refusal.proofs.Outcome.{both_ok}
 use Rattle.bandwidth.specs.declared.Bitrate.{Bitrate}
-use Rattle.packets.specs.Summary.{latest_time, check_columns, packets, empty, add_packet, summary_of, is_of_report}
+use Rattle.packets.specs.Summary.{latest_time, check_time, check_columns, packets, empty, add_packet, summary_of, is_of_report}
 use Rattle.packets.specs.declared.PacketResultsSummary.{PacketResultsSummary}
 use Rattle.packets.proofs.Totals.{summary_early}
 use Rattle.packets.proofs.Reports.{times, sizes, flags, ReportOf, report_passes, some_report}
-use Rattle.loss_controller.specs.Setters.{check_rate, check_time}
+use Rattle.loss_controller.specs.Setters.{check_rate}
 use Rattle.loss_controller.specs.Report.{reported, update_bandwidth_estimate, update_with_summary}
 use Rattle.loss_controller.specs.declared.LossController.{LossController}
 

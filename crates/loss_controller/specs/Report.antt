@@ -1,11 +1,12 @@
 -- One report, in order (document 01; `update_bandwidth_estimate`). Definitions only.
 use Rattle.std.specs.Prelude.{ℕ, Bool, ◌&&◌, if◌then◌else◌, List, Result, Ok, Err, ◌==◌, Float}
+use Rattle.std.specs.Bool.{then_some}
 use Rattle.std.specs.Float.Ieee.Scale.{finite}
 use Rattle.refusal.specs.Outcome.{and_then}
 use Rattle.refusal.specs.declared.Refusal.{Refusal}
 use Rattle.refusal.specs.declared.Refusal.TheVariants.{TooManyPackets}
 use Rattle.bandwidth.specs.declared.Bitrate.{Bitrate}
-use Rattle.packets.specs.Summary.{check_columns, summary_of, is_of_report}
+use Rattle.packets.specs.Summary.{check_time, check_columns, summary_of, is_of_report}
 use Rattle.packets.specs.declared.PacketResultsSummary.{PacketResultsSummary}
 use Rattle.observation.specs.Ratio as Ratio
 use Rattle.observation.specs.Rows as Rows
@@ -18,7 +19,7 @@ use Rattle.estimator.specs.State.{is_limited_due_to_loss}
 use Rattle.estimator.specs.Update as Update
 use Rattle.estimator.specs.declared.Estimator.{Estimator}
 use Rattle.estimator.specs.declared.Report.{Report}
-use Rattle.loss_controller.specs.Setters.{check_rate, check_time, is_in_alr}
+use Rattle.loss_controller.specs.Setters.{check_rate, is_in_alr}
 use Rattle.loss_controller.specs.declared.LossController.{LossController}
 
 -- ---- steps 3 to 5, once an observation is complete: c has it
@@ -28,8 +29,8 @@ unfoldable pub bounds : LossController → Bounds
 bounds c =
     record {
       capacity = Bound.capacity (is_in_alr c) c.inputs.link_capacity_estimate;
-      is_limited = is_limited_due_to_loss c.estimator.state;
-      bandwidth_limit_in_current_window = c.estimator.recovery.bandwidth_limit_in_current_window;
+      bandwidth_limit_in_current_window =
+          then_some (is_limited_due_to_loss c.estimator.state) c.estimator.recovery.bandwidth_limit_in_current_window;
       instant_upper_bound = Ratio.cached c.observations.cached_instant_upper_bound;
       delay_based_estimate = c.inputs.delay_based_estimate;
       acknowledged_bitrate = c.inputs.acknowledged_bitrate;

@@ -1,6 +1,6 @@
--- The four setters, and the codes 2 and 3. A call that is refused answers the refusal alone, and leaves the controller with its caller ("hands the
+-- The four setters, and the code 2. A call that is refused answers the refusal alone, and leaves the controller with its caller ("hands the
 -- controller back unchanged", demand 1). Definitions only.
-use Rattle.std.specs.Prelude.{ℕ, Bool, ◌&&◌, ◌||◌, if◌then◌else◌, Option, Some, None, is_some, Result, Ok, Err, nat_le}
+use Rattle.std.specs.Prelude.{ℕ, Bool, ◌&&◌, ◌||◌, if◌then◌else◌, Option, Some, None, is_some, Result, Ok, Err}
 use Rattle.std.specs.Bool.{beq}
 use Rattle.std.specs.Float.Ieee.{lt}
 use Rattle.std.specs.Float.Ieee.Scale.{finite}
@@ -8,10 +8,10 @@ use Rattle.float.specs.Rounded.{bits}
 use Rattle.float.specs.Rust.{sign_bit}
 use Rattle.refusal.specs.Outcome.{and_then}
 use Rattle.refusal.specs.declared.Refusal.{Refusal}
-use Rattle.refusal.specs.declared.Refusal.TheVariants.{Rate, Time}
+use Rattle.refusal.specs.declared.Refusal.TheVariants.{Rate}
 use Rattle.bandwidth.specs.Rate.{rate, most_rate}
 use Rattle.bandwidth.specs.declared.Bitrate.{Bitrate}
-use Rattle.packets.specs.Summary.{latest_time}
+use Rattle.packets.specs.Summary.{check_time}
 use Rattle.observation.specs.Window.{cleared}
 use Rattle.loss_controller.specs.declared.LossController.{LossController}
 
@@ -28,10 +28,6 @@ check_rate r = if finite r.bps && (sign_bit r.bps || lt most_rate.bps r.bps) the
 unfoldable pub check_capacity : Option Bitrate → Result (Unit {0}) Refusal
 check_capacity (Some r) = check_rate r
 check_capacity None = Ok tt
-
--- "3: a time above 4×10^18 ns."
-unfoldable pub check_time : ℕ → Result (Unit {0}) Refusal
-check_time t = if nat_le t latest_time then Ok tt else Err Time
 
 unfoldable pub check_start : Option ℕ → Result (Unit {0}) Refusal
 check_start (Some start) = check_time start

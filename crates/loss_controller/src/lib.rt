@@ -39,17 +39,6 @@ pub struct LossBasedBweResult {
     pub state: LossControllerState,
 }
 
-// Refused above 4 * 10^18 ns.
-#[tactic(auto, unfolding(crate::specs::Setters::check_time))]
-pub fn check_time(time: u64) -> Result<(), Refusal>
-    ensures { result ≡ Setters.check_time time }
-{
-    if time > packets::LATEST_TIME {
-        return Err(Refusal::Time);
-    }
-    Ok(())
-}
-
 // Refused where it is finite, and has its sign bit set or is above 10^15.
 #[tactic(auto, using(float::proofs::Std::partial_gt_is), unfolding(crate::specs::Setters::check_rate))]
 pub fn check_rate(rate: Bitrate) -> Result<(), Refusal>
@@ -92,54 +81,51 @@ impl LossController {
     // Override the current bandwidth estimate.
     #[tactic(auto, unfolding(crate::specs::Setters::set_bandwidth_estimate))]
     pub fn set_bandwidth_estimate(
-        self,
+        mut self,
         bandwidth_estimate: Bitrate,
     ) -> Result<LossController, Refusal>
         ensures { result ≡ Setters.set_bandwidth_estimate self bandwidth_estimate }
     {
         check_rate(bandwidth_estimate)?;
-        let mut controller = self;
-        controller.estimator.current_estimate.loss_limited_bandwidth = bandwidth_estimate;
-        Ok(controller)
+        self.estimator.current_estimate.loss_limited_bandwidth = bandwidth_estimate;
+        Ok(self)
     }
 
     // Update the acknowledged bitrate based on TWCC feedback.
     #[tactic(auto, unfolding(crate::specs::Setters::set_acknowledged_bitrate))]
     pub fn set_acknowledged_bitrate(
-        self,
+        mut self,
         acknowledged_bitrate: Bitrate,
     ) -> Result<LossController, Refusal>
         ensures { result ≡ Setters.set_acknowledged_bitrate self acknowledged_bitrate }
     {
         check_rate(acknowledged_bitrate)?;
-        let mut controller = self;
-        controller.inputs.acknowledged_bitrate = acknowledged_bitrate;
-        Ok(controller)
+        self.inputs.acknowledged_bitrate = acknowledged_bitrate;
+        Ok(self)
     }
 
     // Set ALR start time from the ALR detector. Where ALR goes on or off the observations are
     // reset, so as not to mix the two kinds of traffic in one window.
     #[tactic(auto, unfolding(crate::specs::Setters::set_alr_start_time, crate::specs::Setters::check_start, crate::specs::Setters::with_alr_start_time))]
-    pub fn set_alr_start_time(self, alr_start: Option<u64>) -> Result<LossController, Refusal>
+    pub fn set_alr_start_time(mut self, alr_start: Option<u64>) -> Result<LossController, Refusal>
         ensures { result ≡ Setters.set_alr_start_time self alr_start }
     {
         if let Some(start) = alr_start {
-            check_time(start)?;
+            packets::check_time(start)?;
         }
         let was_in_alr = self.is_in_alr();
         let is_in_alr = alr_start.is_some();
-        let mut controller = self;
-        controller.inputs.alr_start_time = alr_start;
+        self.inputs.alr_start_time = alr_start;
         if was_in_alr != is_in_alr {
-            return Ok(controller.reset_observations());
+            return Ok(self.reset_observations());
         }
-        Ok(controller)
+        Ok(self)
     }
 
     // Set link capacity estimate from successful ALR probes.
     #[tactic(auto, unfolding(crate::specs::Setters::set_link_capacity_estimate, crate::specs::Setters::check_capacity))]
     pub fn set_link_capacity_estimate(
-        self,
+        mut self,
         capacity: Option<Bitrate>,
     ) -> Result<LossController, Refusal>
         ensures { result ≡ Setters.set_link_capacity_estimate self capacity }
@@ -147,9 +133,8 @@ impl LossController {
         if let Some(rate) = capacity {
             check_rate(rate)?;
         }
-        let mut controller = self;
-        controller.inputs.link_capacity_estimate = capacity;
-        Ok(controller)
+        self.inputs.link_capacity_estimate = capacity;
+        Ok(self)
     }
 
     // Check if currently in ALR state
@@ -203,47 +188,47 @@ impl LossController {
             return Err(Refusal::TooManyPackets);
         }
         check_rate(delay_based_estimated)?;
-        check_time(summary.last_send_time)?;
+        packets::check_time(summary.last_send_time)?;
         self.reported(summary, delay_based_estimated)
     }
 
     // The steps, once packets and delay estimate are taken.
     #[tactic(auto, unfolding(crate::specs::Report::reported, crate::specs::Report::observed, crate::specs::Report::with_delay_based_estimate, crate::specs::Report::has_valid_estimate))]
     fn reported(
-        self,
+        mut self,
         summary: PacketResultsSummary,
         delay_based_estimated: Bitrate,
     ) -> Result<LossController, Refusal>
         ensures { result ≡ Steps.reported self summary delay_based_estimated }
     {
-        let mut controller = self;
-        controller.inputs.delay_based_estimate = delay_based_estimated;
+        self.inputs.delay_based_estimate = delay_based_estimated;
         if summary.num_packets == 0 {
-            return Ok(controller);
+            return Ok(self);
         }
         let added = self.observations.maybe_add_observation(summary)?;
-        controller.observations = added.observations;
+        self.observations = added.observations;
         let current = self.estimator.current_estimate.loss_limited_bandwidth;
         // The estimator must be initialized before use.
         if !added.completed || !current.is_valid() {
-            return Ok(controller);
+            return Ok(self);
         }
-        controller.estimator = controller.updated_estimator()?;
-        Ok(controller)
+        self.estimator = self.updated_estimator()?;
+        Ok(self)
     }
 
     // The candidates, the best of them, and what follows from it.
     #[tactic(auto, unfolding(crate::specs::Report::updated_estimator))]
-    fn updated_estimator(self) -> Result<Estimator, Refusal>
+    pub fn updated_estimator(self) -> Result<Estimator, Refusal>
         ensures { result ≡ Steps.updated_estimator self }
     {
         let rows = self.observations.rows()?;
         let ratio = self.observations.average_reported_loss_ratio()?;
         let current_estimate = self.estimator.current_estimate;
+        let candidates = candidates::get_candidates(current_estimate, self.bounds());
         let best_candidate = candidates::choose(
             self.observations.use_byte_loss_ratio,
             current_estimate,
-            candidates::get_candidates(current_estimate, self.bounds()),
+            &candidates,
             rows,
             ratio,
         )?;
@@ -253,7 +238,7 @@ impl LossController {
 
     // What the candidates' upper bound reads.
     #[tactic(auto, unfolding(crate::specs::Report::bounds))]
-    fn bounds(self) -> Bounds
+    pub fn bounds(self) -> Bounds
         ensures { result ≡ Steps.bounds self }
     {
         let estimator = self.estimator;
@@ -263,8 +248,10 @@ impl LossController {
                 self.is_in_alr(),
                 inputs.link_capacity_estimate,
             ),
-            is_limited: estimator.state.is_bandwidth_limited_due_to_loss(),
-            bandwidth_limit_in_current_window: estimator.recovery.bandwidth_limit_in_current_window,
+            bandwidth_limit_in_current_window: estimator
+                .state
+                .is_bandwidth_limited_due_to_loss()
+                .then_some(estimator.recovery.bandwidth_limit_in_current_window),
             instant_upper_bound: self.observations.get_instant_upper_bound(),
             delay_based_estimate: inputs.delay_based_estimate,
             acknowledged_bitrate: inputs.acknowledged_bitrate,

@@ -5,7 +5,8 @@ use lib.Ieee.{binary64}
 use lib.Ieee.Bits.{of_bits-fits}
 use lib.Ieee.Fits.{inf-fits}
 use Rattle.refusal.specs.declared.Refusal.{Refusal}
-use Rattle.float.proofs.Each.{Each, each_set, each_replicate, each_map}
+use Rattle.std.specs.List.{All}
+use Rattle.std.proofs.lemmas.List.Elements.{All-replicate, All-set, All-map, All-weaker}
 use Rattle.float.proofs.Refusal.{either, tested, checked}
 use Rattle.bandwidth.specs.Size as Size
 use Rattle.bandwidth.specs.declared.Bitrate.{Bitrate}
@@ -31,7 +32,7 @@ SentObservation o = HoldsRate o.sending_rate
 
 -- so is each in the window
 abbrev pub AllSent : Observations → Type 0
-AllSent o = Each SentObservation o.observations
+AllSent o = All SentObservation o.observations
 
 -- ---- a new observation
 
@@ -54,27 +55,29 @@ observed_sent p id span =
 -- at the start and after a reset each rate is
 pub cleared_sent : (use_bytes : Bool) (count : ℕ) → AllSent (Window.cleared use_bytes count)
 unfolding Window.cleared
-cleared_sent use_bytes count = each_replicate SentObservation 15 Window.dummy (inf-fits binary64 _)
+cleared_sent use_bytes count = All-replicate SentObservation 15 Window.dummy (inf-fits binary64 _)
 
 -- after a report each still is
 pub added_sent : (o : Observations) (s : PacketResultsSummary) → AllSent o → IfOk (Window.added o s) (λ (a : Added). AllSent a.observations)
 unfolding Window.stored Window.with_ceiling Window.with_partial
 added_sent o s h =
     added_by o s (λ r. IfOk r (λ (a : Added). AllSent a.observations)) (λ n. h) (λ e. tt)
-    (λ q new ceiling u c n r. each_set _ new (rw n at (observed_sent q o.num_observations (span o s))) h) (λ q u c. h)
+    (λ q new ceiling u c n r. All-set SentObservation o.observations _ new (rw n at (observed_sent q o.num_observations (span o s))) h) (λ q u c. h)
 
 -- ---- the rows
 
 -- each row's rate is, where each observation's is
-pub rows_sent : (o : Observations) → AllSent o → IfOk (Rows.rows o) (Each SentRow)
+pub rows_sent : (o : Observations) → AllSent o → IfOk (Rows.rows o) (All SentRow)
 unfolding Rows.rows
 rows_sent o h =
     let use_bytes = o.use_byte_loss_ratio in
-    let made = each_map SentRow (Rows.row_of use_bytes o.num_observations) (row_sent use_bytes o.num_observations) h in
+    let made =
+    All-map SentRow (Rows.row_of use_bytes o.num_observations) o.observations
+    (All-weaker SentObservation _ (row_sent use_bytes o.num_observations) o.observations h) in
     tested SentRows (Ratio.readable use_bytes o.observations) (λ r. made) (λ r. tt)
   where
     SentRows : Result (List Row) Refusal → Type 0
-    SentRows rows = IfOk rows (Each SentRow)
+    SentRows rows = IfOk rows (All SentRow)
 
     row_sent : (use_bytes : Bool) (count : ℕ) (o : Observation) → SentObservation o → SentRow (Rows.row_of use_bytes count o)
     row_sent use_bytes count o h =

@@ -8,8 +8,8 @@ use Rattle.refusal.specs.declared.Refusal.TheVariants.{Arithmetic}
 use Rattle.float.specs.Rounded.{◌⊘◌, bits}
 use Rattle.rounding.specs.Exact.{Measured}
 use Rattle.rounding.specs.Ratio.{add_weighted, loss_ratio}
-use Rattle.observation.specs.Ratio.{window, readable, average_reported_loss_ratio}
-use Rattle.observation.specs.Steps.{with_slot, summed}
+use Rattle.observation.specs.Ratio.{measured, window, readable, average_reported_loss_ratio}
+use Rattle.observation.specs.Steps.{total_and_lost, summed}
 use Rattle.observation.specs.declared.Observation.{Observation}
 use Rattle.observation.specs.declared.Observations.{Observations}
 
@@ -20,11 +20,17 @@ ends use_bytes count s os =
     cond (readable use_bytes os)
     (Ok (foldl (add_weighted (λ (m : Measured). m.total)) s.0 w, foldl (add_weighted (λ (m : Measured). m.lost)) s.1 w)) (Err Arithmetic)
 
+-- its two sums with a slot's
+abbrev sums_with : Bool → ℕ → Float × Float → Observation → Float × Float
+sums_with use_bytes count s o =
+    let m = measured use_bytes count o in
+    (add_weighted (λ (m : Measured). m.total) s.0 m, add_weighted (λ (m : Measured). m.lost) s.1 m)
+
 sums_end : (use_bytes : Bool) (count : ℕ) (s : Float × Float) (os : List Observation)
     → try_fold (summed use_bytes count) s os ≡ ends use_bytes count s os
-unfolding summed window readable
+unfolding summed total_and_lost window readable
 sums_end use_bytes count s [] = refl
-sums_end use_bytes count s (o ∷ os) = grind (arith, sums_end use_bytes count (with_slot use_bytes count s o) os, sums_end use_bytes count s os)
+sums_end use_bytes count s (o ∷ os) = grind (arith, sums_end use_bytes count (sums_with use_bytes count s o) os, sums_end use_bytes count s os)
 
 -- what the loop's sums say of the ratio
 pub ratio_is : (o : Observations)

@@ -63,6 +63,13 @@ pub struct Added {
     pub completed: bool,
 }
 
+// Bytes as the Rust's DataSize.
+fn data_size(bytes: u64) -> Result<DataSize, Refusal>
+    ensures { result ≡ Size.fitted (pos bytes) }
+{
+    DataSize::try_from(bytes as usize)
+}
+
 // ---- running sums
 
 impl PartialObservation {
@@ -118,7 +125,7 @@ impl PartialObservation {
         if self.num_lost_packets > self.num_packets {
             return Err(Refusal::Arithmetic);
         }
-        let size = DataSize::try_from(self.size as usize)?;
+        let size = data_size(self.size)?;
         let sending_rate = time::div_time_delta(size, observation_duration)?;
         Ok(Observation {
             num_packets: self.num_packets,
@@ -263,18 +270,27 @@ fn age(num_observations: u64, id: u64) -> u64
     config::OBSERVATION_WINDOW_SIZE
 }
 
-// By a DataSize, as each size goes to a float.
-#[tactic(auto, using(crate::proofs::Sizes::held), unfolding(bandwidth::specs::Size::float, integer::specs::Fitted::fitted))]
-fn as_bytes_f64(bytes: u64) -> Result<f64, Refusal>
-    ensures { result ≡ Size.float (Size.size (pos bytes)) }
-{
-    let size = DataSize::try_from(bytes as usize)?;
-    size.as_bytes_f64()
+impl Observation {
+    // What the loss ratio weighs: bytes, or packets. Arithmetic where a size goes to no float.
+    #[tactic(auto, using(crate::proofs::Sizes::held), unfolding(crate::specs::Steps::total_and_lost, bandwidth::specs::Size::float, integer::specs::Fitted::fitted))]
+    fn total_and_lost(&self, use_byte_loss_ratio: bool) -> Result<(f64, f64), Refusal>
+        ensures { result ≡ Steps.total_and_lost use_byte_loss_ratio self.now }
+    {
+        if use_byte_loss_ratio {
+            let total = data_size(self.size)?.as_bytes_f64()?;
+            let lost = data_size(self.lost_size)?.as_bytes_f64()?;
+            return Ok((total, lost));
+        }
+        Ok((
+            std::num::nearest_u64_to_f64(self.num_packets),
+            std::num::nearest_u64_to_f64(self.num_lost_packets),
+        ))
+    }
 }
 
 impl Observations {
     // In slot order. 0.0 where nothing was sent, and Arithmetic where a size goes to no float.
-    #[tactic(auto, using(crate::proofs::Sums::ratio_is, refusal::proofs::Outcome::fold_turn, refusal::proofs::Outcome::fold_end), unfolding(crate::specs::Steps::summed, bandwidth::specs::Size::float))]
+    #[tactic(auto, using(crate::proofs::Sums::ratio_is, refusal::proofs::Outcome::fold_turn, refusal::proofs::Outcome::fold_end), unfolding(crate::specs::Steps::summed))]
     pub fn average_reported_loss_ratio(self) -> Result<f64, Refusal>
         ensures { result ≡ Ratio.average_reported_loss_ratio self }
     {
@@ -286,15 +302,9 @@ impl Observations {
             }
             let index = age(self.num_observations, observation.id);
             let instant_temporal_weight = logarithm::weight(index);
-            if self.use_byte_loss_ratio {
-                total += instant_temporal_weight * as_bytes_f64(observation.size)?;
-                lost += instant_temporal_weight * as_bytes_f64(observation.lost_size)?;
-            } else {
-                total += instant_temporal_weight
-                    * std::num::nearest_u64_to_f64(observation.num_packets);
-                lost += instant_temporal_weight
-                    * std::num::nearest_u64_to_f64(observation.num_lost_packets);
-            }
+            let (its_total, its_lost) = observation.total_and_lost(self.use_byte_loss_ratio)?;
+            total += instant_temporal_weight * its_total;
+            lost += instant_temporal_weight * its_lost;
         }
         if total == 0.0 {
             return Ok(0.0);
@@ -329,49 +339,26 @@ impl Observations {
 
 // ---- rows for the likelihood
 
-const EMPTY_ROW: Row = Row {
-    is_initialized: false,
-    weight: 0.0,
-    lost: 0.0,
-    received: 0.0,
-    total: 0.0,
-    sending_rate: Bitrate::ZERO,
-};
-
 impl Observation {
     // Its row when so many observations are complete; an empty one where the slot is. Arithmetic
     // where a size goes to no float.
-    #[tactic(auto, unfolding(crate::specs::Steps::row, crate::specs::Steps::byte_row, crate::specs::Rows::row_of))]
+    #[tactic(auto, unfolding(crate::specs::Steps::row, crate::specs::Steps::kilobytes, crate::specs::Rows::row_of))]
     fn row(&self, use_byte_loss_ratio: bool, num_observations: u64) -> Result<Row, Refusal>
         ensures { result ≡ Steps.row use_byte_loss_ratio num_observations self.now }
     {
         if !self.is_initialized {
-            return Ok(EMPTY_ROW);
+            return Ok(Row::EMPTY);
         }
         let weight = logarithm::weight(age(num_observations, self.id));
-        if use_byte_loss_ratio {
-            return self.byte_row(weight);
-        }
-        Ok(Row {
-            is_initialized: true,
-            weight,
-            lost: std::num::nearest_u64_to_f64(self.num_lost_packets),
-            received: std::num::nearest_u64_to_f64(self.num_received_packets),
-            total: std::num::nearest_u64_to_f64(self.num_packets),
-            sending_rate: self.sending_rate,
-        })
-    }
-
-    #[tactic(auto, using(crate::proofs::Sizes::held, crate::proofs::Sizes::difference_held), unfolding(crate::specs::Steps::byte_row, bandwidth::specs::Size::kilobytes, bandwidth::specs::Size::float, integer::specs::Fitted::fitted))]
-    fn byte_row(&self, weight: f64) -> Result<Row, Refusal>
-        ensures { result ≡ Steps.byte_row weight self.now }
-    {
-        let total_size = DataSize::try_from(self.size as usize)?;
-        let total = total_size.as_kb()?;
-        let lost_size = DataSize::try_from(self.lost_size as usize)?;
-        let lost = lost_size.as_kb()?;
-        let received_size = total_size.sub(lost_size)?;
-        let received = received_size.as_kb()?;
+        let (lost, received, total) = if use_byte_loss_ratio {
+            self.kilobytes()?
+        } else {
+            (
+                std::num::nearest_u64_to_f64(self.num_lost_packets),
+                std::num::nearest_u64_to_f64(self.num_received_packets),
+                std::num::nearest_u64_to_f64(self.num_packets),
+            )
+        };
         Ok(Row {
             is_initialized: true,
             weight,
@@ -381,6 +368,19 @@ impl Observation {
             sending_rate: self.sending_rate,
         })
     }
+
+    // Lost, received and total.
+    #[tactic(auto, using(crate::proofs::Sizes::held, crate::proofs::Sizes::difference_held), unfolding(crate::specs::Steps::kilobytes, bandwidth::specs::Size::kilobytes, bandwidth::specs::Size::float, integer::specs::Fitted::fitted))]
+    fn kilobytes(&self) -> Result<(f64, f64, f64), Refusal>
+        ensures { result ≡ Steps.kilobytes self.now }
+    {
+        let total_size = data_size(self.size)?;
+        let total = total_size.as_kb()?;
+        let lost_size = data_size(self.lost_size)?;
+        let lost = lost_size.as_kb()?;
+        let received = total_size.sub(lost_size)?.as_kb()?;
+        Ok((lost, received, total))
+    }
 }
 
 impl Observations {
@@ -389,7 +389,7 @@ impl Observations {
     pub fn rows(self) -> Result<[Row; 15], Refusal>
         ensures { result ≡ Rows.rows self }
     {
-        let mut rows = [EMPTY_ROW; 15];
+        let mut rows = [Row::EMPTY; 15];
         for (slot, observation) in self.observations.iter().enumerate() {
             rows[slot] = observation.row(self.use_byte_loss_ratio, self.num_observations)?;
         }

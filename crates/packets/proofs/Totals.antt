@@ -1,5 +1,13 @@
 -- The list of packets that three columns of one length make, and how far one packet takes the totals. Assumes nothing.
-use Rattle.std.proofs.Common.{◌≡◌, ℕ, zero, suc, ◌+◌, ◌-◌, ◌*◌, ◌<◌, ◌≤◌, List, [], ◌∷◌, length, get_or, drop, Ok, refl, ap, mul-le-mul_left, mul-one, arith, lit≤, true, subst}
+use Rattle.std.proofs.Common.{Bor, Iter, Option, Some, None, ◌≡◌, ℕ, zero, suc, ◌+◌, ◌-◌, ◌*◌, ◌<◌, ◌≤◌, List, [], ◌∷◌, length, get_or, drop, Ok, refl, ap, mul-le-mul_left, mul-one, arith, lit≤, true, subst}
+use Rattle.std.specs.Iterator.{Yields}
+use Rattle.std.specs.Iterator.Adapters.{zip_first, zip_second}
+use Rattle.std.specs.List.{zip}
+use Rattle.std.specs.Slice.Iter.{iter_rest}
+use Rattle.std.specs.declared.iter.Zip.{Zip}
+use Rattle.std.proofs.iter.Yields.{fronts}
+use Rattle.std.proofs.lemmas.Iterator.{zips, YieldsList, YieldsList-from_slice, YieldsList-from_zip}
+use Rattle.std.proofs.lemmas.Iterator.Consumers.{YieldsList-turn, YieldsList-end}
 use Rattle.std.proofs.lemmas.Bool.Decides.{nat_tests}
 use Rattle.refusal.specs.Outcome.{and_then, try_fold}
 use Rattle.refusal.proofs.Outcome.{both_ok, fold_turn, fold_end, fold_keeps}
@@ -53,6 +61,41 @@ packets_at (t ∷ ts) [] flags i d h k l = absurd (omega arith)
 packets_at (t ∷ ts) (s ∷ ss) [] i d h k l = absurd (omega arith)
 packets_at (t ∷ ts) (s ∷ ss) (f ∷ fs) zero d h k l = refl
 packets_at (t ∷ ts) (s ∷ ss) (f ∷ fs) (suc i) d h k l = packets_at ts ss fs i d (omega arith) (omega arith) (omega arith)
+
+-- the item of the columns side by side, and how many there are
+pub zipped_at : (times sizes flags : List ℕ) (i : ℕ) (d : (ℕ × ℕ) × ℕ) → i < length (zip (zip times sizes) flags) → d ≡ get_or (zip (zip times sizes) flags) i d
+    → (i < length times) × (packet_at times sizes flags i ≡ record { local_send_time = d.0.0; size = d.0.1; lost = d.1 })
+zipped_at [] sizes flags i d l h = absurd (omega arith)
+zipped_at (t ∷ ts) [] flags i d l h = absurd (omega arith)
+zipped_at (t ∷ ts) (s ∷ ss) [] i d l h = absurd (omega arith)
+zipped_at (t ∷ ts) (s ∷ ss) (f ∷ fs) zero d l h = (omega arith, rw h refl)
+zipped_at (t ∷ ts) (s ∷ ss) (f ∷ fs) (suc i) d l h = let at = zipped_at ts ss fs i d (omega arith) h in (omega arith, at.1)
+
+pub zipped_length : (times sizes flags : List ℕ) → length sizes ≡ length times → length flags ≡ length times → length (zip (zip times sizes) flags) ≡ length times
+zipped_length [] sizes flags h k = refl
+zipped_length (t ∷ ts) [] flags h k = absurd (omega arith)
+zipped_length (t ∷ ts) (s ∷ ss) [] h k = absurd (omega arith)
+zipped_length (t ∷ ts) (s ∷ ss) (f ∷ fs) h k = ap suc (zipped_length ts ss fs (omega arith) (omega arith))
+
+-- a turn of a `for` over the columns side by side, which has given xs, and its end
+module _ (times sizes flags : List ℕ) (s : Zip (Zip (Iter ℕ) (Iter ℕ)) (Iter ℕ))
+    (first : iter_rest (zip_first (zip_first s)) ≡ times) (second : iter_rest (zip_second (zip_first s)) ≡ sizes) (third : iter_rest (zip_second s) ≡ flags)
+    (xs : List ((Bor ℕ × Bor ℕ) × Bor ℕ)) (t u : Zip (Zip (Iter ℕ) (Iter ℕ)) (Iter ℕ)) (r : Option ((Bor ℕ × Bor ℕ) × Bor ℕ))
+    (given : Yields (zips (zips fronts fronts) fronts) s xs t) (next : zips (zips fronts fronts) fronts t r u) where
+  columns_listed : YieldsList (zips (zips fronts fronts) fronts) (λ p. ((p.0.0.now, p.0.1.now), p.1.now)) s (zip (zip times sizes) flags)
+  columns_listed =
+      YieldsList-from_zip (YieldsList-from_zip (YieldsList-from_slice times first) (YieldsList-from_slice sizes second)) (YieldsList-from_slice flags third)
+
+  pub row_given : (p : (Bor ℕ × Bor ℕ) × Bor ℕ) → r ≡ Some p → (length xs < length times)
+      × (packet_at times sizes flags (length xs) ≡ record { local_send_time = p.0.0.now; size = p.0.1.now; lost = p.1.now })
+  row_given p is =
+      let item = YieldsList-turn columns_listed xs t given r u p is next in
+      zipped_at times sizes flags (length xs) _ item.0 item.1
+
+  pub rows_given : Even times sizes flags → r ≡ None → length times ≤ length xs
+  rows_given e is =
+      let end = YieldsList-end columns_listed xs t given r u is next in
+      omega (arith, end.1, zipped_length times sizes flags e.sizes_even e.flags_even)
 
 -- a turn of the loop over three columns, and its end
 module _ {times sizes flags : List ℕ} (e : Even times sizes flags) where

@@ -20,6 +20,9 @@ latest_time = 4 * 10 ^ 18
 abbrev pub largest_packet : ℕ
 largest_packet = 9999999
 
+unfoldable pub check_time : ℕ → Result (Unit {0}) Refusal
+check_time t = if nat_le t latest_time then Ok tt else Err Time
+
 -- ---- columns
 
 -- "A report checks 4, 5": columns of unequal length, then more than 4,096 packets

@@ -3,7 +3,7 @@
 #![tactic(auto)]
 
 ghost use Rattle.std.specs.Prelude.{◌≡◌, ◌<◌, true};
-ghost use Rattle.packets.specs.Summary.{most_packets, check_columns, check_packet, add_packet, is_of_report, added, summary_of};
+ghost use Rattle.packets.specs.Summary.{most_packets, check_time, check_columns, check_packet, add_packet, is_of_report, added, summary_of};
 
 use refusal::Refusal;
 
@@ -19,7 +19,7 @@ pub const LARGEST_PACKET: u64 = 9_999_999;
 pub const LATEST_TIME: u64 = 4_000_000_000_000_000_000;
 
 // What the trait `PacketResult` tells of a packet. `lost` is 1 or 0; any other flag is refused.
-#[derive(Clone, Copy)]
+#[derive(Clone, Copy, Default)]
 pub struct PacketResult {
     pub local_send_time: u64,
     pub size: PacketSize,
@@ -34,6 +34,17 @@ pub struct PacketResultsSummary {
     pub total_size: u64,
     pub lost_size: u64,
     pub last_send_time: u64,
+}
+
+// Refused above 4 * 10^18 ns.
+#[tactic(auto, unfolding(crate::specs::Summary::check_time))]
+pub fn check_time(time: u64) -> Result<(), Refusal>
+    ensures { result ≡ check_time time }
+{
+    if time > LATEST_TIME {
+        return Err(Refusal::Time);
+    }
+    Ok(())
 }
 
 // Columns of unequal length go before too many packets.
@@ -52,13 +63,11 @@ pub fn check_columns(times: &[u64], sizes: &[PacketSize], flags: &[u8]) -> Resul
 
 impl PacketResult {
     // Its time, then its size, then its flag.
-    #[tactic(auto, using(std::proofs::lemmas::Bool::Decides::nat_tests), unfolding(crate::specs::Summary::check_packet))]
+    #[tactic(auto, using(std::proofs::lemmas::Bool::Decides::nat_tests), unfolding(crate::specs::Summary::check_time, crate::specs::Summary::check_packet))]
     pub fn check(self) -> Result<(), Refusal>
         ensures { result ≡ check_packet self }
     {
-        if self.local_send_time > LATEST_TIME {
-            return Err(Refusal::Time);
-        }
+        check_time(self.local_send_time)?;
         if u64::from(self.size) > LARGEST_PACKET {
             return Err(Refusal::PacketSize);
         }
@@ -135,11 +144,11 @@ pub fn summary(
 {
     check_columns(times, sizes, flags)?;
     let mut summary = PacketResultsSummary::EMPTY;
-    for i in 0..times.len() {
+    for ((time, size), flag) in times.iter().zip(sizes).zip(flags) {
         let packet = PacketResult {
-            local_send_time: times[i],
-            size: sizes[i],
-            lost: flags[i],
+            local_send_time: *time,
+            size: *size,
+            lost: *flag,
         };
         summary = summary.add_packet(packet)?;
     }

@@ -8,10 +8,6 @@ pub data Alike {A B E : Type 0} (P : A → B → Type 0) : Result A E → Result
   same : {e : E} → Alike P (Err e) (Err e)
 
 module _ {A B : Type 0} {P : A → B → Type 0} where
-  -- what ties the answers
-  pub alike_ok : {E : Type 0} {x : A} {y : B} → Alike {E = E} P (Ok x) (Ok y) → P x y
-  alike_ok (answers p) = p
-
   -- the same number
   pub alike_number : {r : Result A Refusal} {s : Result B Refusal} → Alike P r s → number r ≡ number s
   alike_number (answers p) = refl

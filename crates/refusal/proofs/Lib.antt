@@ -1,3 +1,4 @@
 pub mod Outcome
 pub mod Alike
 pub mod Gives
+pub mod TryFold

@@ -11,11 +11,6 @@ pub both_ok : {A B E P : Type 0} (r : Result A E) (f : A → Result B E) (y : B)
 both_ok (Ok x) f y h k = k x refl h
 both_ok (Err e) f y h k = search rules
 
--- three steps are two and one, or one and two
-pub then_assoc : {A B C E : Type 0} (r : Result A E) (f : A → Result B E) (g : B → Result C E) → and_then (and_then r f) g ≡ and_then r (λ x. and_then (f x) g)
-then_assoc (Ok x) f g = refl
-then_assoc (Err e) f g = refl
-
 -- no refusal has the number 0
 pub code_positive : {P : Type 0} (e : Refusal) → code e ≡ 0 → P
 code_positive NotInShape h = search rules

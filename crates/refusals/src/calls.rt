@@ -1,6 +1,5 @@
 // Code 2 at each call that takes a rate, and the setters that take an option.
-use crate::controllers::{USUAL, controller, without_options};
-use crate::print::Bits;
+use crate::controllers::USUAL;
 use crate::reports::{Report, packets, send};
 use crate::summaries::summary_at;
 use crate::values::{LATEST, SOON, TOO_LATE};
@@ -44,8 +43,10 @@ fn send_with(n: usize, start: LossController, rate: Bitrate) -> Result<LossContr
 // ---- the setters that take an option
 
 pub(crate) fn options(tally: &mut Tally) -> io::Result<()> {
-    let on = controller(tally.use_byte_loss_ratio, USUAL);
-    let off = without_options(on);
+    let on = tally.controller(USUAL);
+    let mut off = on;
+    off.inputs.alr_start_time = None;
+    off.inputs.link_capacity_estimate = None;
     for start in [on, off] {
         tally.alr(start, LATEST, None)?;
         tally.alr(start, TOO_LATE, Some(Refusal::Time))?;
@@ -68,7 +69,7 @@ impl Tally {
     ) -> io::Result<()>
         requires { F.IsAlwaysCallable call }
     {
-        let start = controller(self.use_byte_loss_ratio, USUAL);
+        let start = self.controller(USUAL);
         let refused = Some(Refusal::Rate);
         for (bits, expected) in [
             // 0.0 and 10^15; the float above it, and the largest
@@ -86,9 +87,9 @@ impl Tally {
             (0xFFF0_0000_0000_0000, None),
             (0x7FF8_0000_0000_0000, None),
         ] {
-            let bps = float::from_bits(bits);
-            let case = format_args!("{name} {}", Bits(bps));
-            self.judge(case, start, call(start, Bitrate { bps }), expected)?;
+            let case = format_args!("{name} {bits:016x}");
+            let answer = call(start, Bitrate::from_bits(bits));
+            self.judge(case, start, answer, expected)?;
         }
         Ok(())
     }

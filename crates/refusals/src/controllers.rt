@@ -1,12 +1,13 @@
 // Controllers of either profile of which no other part is as in a new one, so that a part that is
 // not handed back shows.
-use crate::values::REFERENCE;
+use crate::values::{MOST_BYTES, MOST_COUNT, MOST_PACKETS, REFERENCE};
 use bandwidth::Bitrate;
 use duration::Duration;
 use estimator::{Estimator, HoldInfo, LossControllerState, Recovery};
 use likelihood::ChannelParameters;
 use loss_controller::{Inputs, LossController};
 use observation::{Observation, Observations, PartialObservation};
+use refusal::Refusal;
 use std::fmt;
 use time::Timestamp;
 
@@ -24,6 +25,43 @@ pub(crate) const USUAL: Sums = Sums {
     packets: 5,
     bytes: 5_000,
 };
+
+// No room for another observation
+pub(crate) const FULL_COUNT: Sums = Sums {
+    count: MOST_COUNT,
+    ..USUAL
+};
+
+// No room for another packet
+pub(crate) const FULL_PACKETS: Sums = Sums {
+    packets: MOST_PACKETS,
+    ..USUAL
+};
+
+// No room for another byte
+pub(crate) const FULL_BYTES: Sums = Sums {
+    bytes: MOST_BYTES,
+    ..USUAL
+};
+
+// No room for anything
+pub(crate) const FULL: Sums = Sums {
+    count: MOST_COUNT,
+    packets: MOST_PACKETS,
+    bytes: MOST_BYTES,
+};
+
+impl Sums {
+    // With what earns the refusal, as far as it lies in the controller
+    pub(crate) fn with_reason(mut self, reason: Refusal) -> Sums {
+        match reason {
+            Refusal::RunningSums => self.bytes = MOST_BYTES,
+            Refusal::Observations => self.count = MOST_COUNT,
+            _ => {}
+        }
+        self
+    }
+}
 
 impl fmt::Display for Sums {
     fn fmt<W: fmt::Write>(&self, f: &mut fmt::Formatter<W>) -> fmt::Result {
@@ -47,7 +85,8 @@ pub(crate) fn controller(use_byte_loss_ratio: bool, sums: Sums) -> LossControlle
         },
         last_send_time_most_recent_observation: Timestamp::Exact(REFERENCE),
         num_observations: sums.count,
-        observations: window(sums.count),
+        // The fifteen newest, each in its slot
+        observations: std::array::from_fn(|slot| observation(sums.count, slot as u64)),
         cached_instant_upper_bound: Some(Bitrate { bps: 2.0e6 }),
     };
     LossController {
@@ -84,11 +123,6 @@ fn estimator() -> Estimator {
     }
 }
 
-// The fifteen newest of so many observations, each in its slot.
-fn window(count: u64) -> [Observation; 15] {
-    std::array::from_fn(|slot| observation(count, slot as u64))
-}
-
 fn observation(count: u64, slot: u64) -> Observation {
     let place = slot % 15;
     let age = (count % 15 + 14 - place) % 15;
@@ -102,24 +136,4 @@ fn observation(count: u64, slot: u64) -> Observation {
         id: count.wrapping_sub(age + 1),
         is_initialized: true,
     }
-}
-
-pub(crate) fn without_estimate(mut controller: LossController) -> LossController {
-    controller.estimator.current_estimate.loss_limited_bandwidth = Bitrate::NEG_INFINITY;
-    controller
-}
-
-// As before the first report
-pub(crate) fn without_reference(mut controller: LossController) -> LossController {
-    controller
-        .observations
-        .last_send_time_most_recent_observation = Timestamp::DistantFuture;
-    controller
-}
-
-// ALR off and no link capacity
-pub(crate) fn without_options(mut controller: LossController) -> LossController {
-    controller.inputs.alr_start_time = None;
-    controller.inputs.link_capacity_estimate = None;
-    controller
 }

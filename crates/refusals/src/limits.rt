@@ -1,17 +1,19 @@
 // Reports at each limit: codes 4 and 5, 3, 17 and 8, 10, 11, and reports without packets.
-use crate::controllers::{Sums, USUAL, controller, without_estimate, without_reference};
-use crate::reports::{completing, marked, of_lengths, packets, send};
+use crate::controllers::{FULL, FULL_BYTES, FULL_COUNT, FULL_PACKETS, Sums, USUAL};
+use crate::reports::{Report, completing, packets, send};
 use crate::values::{
-    COMPLETING, LARGEST, LATEST, MOST_BYTES, MOST_COUNT, MOST_PACKETS, TOO_LARGE, TOO_LATE,
+    COMPLETING, LARGEST, LATEST, MOST_BYTES, MOST_COUNT, MOST_PACKETS, NO_FLAG, TOO_LARGE, TOO_LATE,
 };
 use crate::verdict::Tally;
+use bandwidth::Bitrate;
 use refusal::Refusal;
 use std::io;
+use time::Timestamp;
 
 // ---- 4 and 5
 
 pub(crate) fn columns(tally: &mut Tally) -> io::Result<()> {
-    tally.report(of_lengths(3, 3, 3), None)?;
+    tally.report(packets(3), None)?;
     for (times, sizes, flags) in [
         (3, 2, 3),
         (3, 4, 3),
@@ -32,7 +34,7 @@ pub(crate) fn columns(tally: &mut Tally) -> io::Result<()> {
         (4_097, 4_096, 4_097),
         (4_097, 4_097, 4_096),
     ] {
-        let report = of_lengths(times, sizes, flags);
+        let report = packets(3).with_lengths(times, sizes, flags);
         tally.report(report, Some(Refusal::UnequalColumns))?;
     }
     Ok(())
@@ -46,15 +48,15 @@ pub(crate) fn longest_reports(tally: &mut Tally) -> io::Result<()> {
     let mut more = completing(4_097);
     tally.report(most, None)?;
     tally.report(more, refused)?;
-    most.times.odd_at = Some(4_095);
-    more.times.odd_at = Some(4_096);
+    most.times.odd = Some((4_095, TOO_LATE));
+    more.times.odd = Some((4_096, TOO_LATE));
     tally.report(most, Some(Refusal::Time))?;
     tally.report(more, refused)?;
-    most.times.odd_at = None;
-    most.sizes.odd_at = Some(4_095);
+    most.times.odd = None;
+    most.sizes.odd = Some((4_095, TOO_LARGE));
     tally.report(most, Some(Refusal::PacketSize))?;
-    most.sizes.odd_at = None;
-    most.flags.odd_at = Some(4_095);
+    most.sizes.odd = None;
+    most.flags.odd = Some((4_095, NO_FLAG));
     tally.report(most, Some(Refusal::Flag))
 }
 
@@ -68,8 +70,8 @@ pub(crate) fn odd_packets(tally: &mut Tally) -> io::Result<()> {
         (u64::MAX, refused),
         (0, None),
     ] {
-        let mut report = marked(Some(1), None, None);
-        report.times.odd = time;
+        let mut report = packets(3);
+        report.times.odd = Some((1, time));
         tally.report(report, expected)?;
     }
     let refused = Some(Refusal::PacketSize);
@@ -79,14 +81,14 @@ pub(crate) fn odd_packets(tally: &mut Tally) -> io::Result<()> {
         (TOO_LARGE, refused),
         (u32::MAX, refused),
     ] {
-        let mut report = marked(None, Some(1), None);
-        report.sizes.odd = size;
+        let mut report = packets(3);
+        report.sizes.odd = Some((1, size));
         tally.report(report, expected)?;
     }
     let refused = Some(Refusal::Flag);
-    for (flag, expected) in [(1, None), (2, refused), (255, refused)] {
-        let mut report = marked(None, None, Some(1));
-        report.flags.odd = flag;
+    for (flag, expected) in [(1, None), (NO_FLAG, refused), (u8::MAX, refused)] {
+        let mut report = packets(3);
+        report.flags.odd = Some((1, flag));
         tally.report(report, expected)?;
     }
     Ok(())
@@ -149,7 +151,7 @@ fn frames_limit(tally: &mut Tally) -> io::Result<()> {
 
 pub(crate) fn packets_limit(tally: &mut Tally) -> io::Result<()> {
     let refused = Some(Refusal::RunningSums);
-    for (num_packets, report, expected) in [
+    for (packets, report, expected) in [
         (999_999_997, packets(3), None),
         (999_999_998, packets(3), refused),
         (999_999_997, completing(3), None),
@@ -157,11 +159,7 @@ pub(crate) fn packets_limit(tally: &mut Tally) -> io::Result<()> {
         (MOST_PACKETS, packets(1), refused),
         (u64::MAX, packets(3), refused),
     ] {
-        let sums = Sums {
-            packets: num_packets,
-            ..USUAL
-        };
-        tally.report_to(sums, report, expected)?;
+        tally.report_to(Sums { packets, ..USUAL }, report, expected)?;
     }
     let both = Sums {
         packets: 999_999_997,
@@ -191,20 +189,18 @@ pub(crate) fn count_limit(tally: &mut Tally) -> io::Result<()> {
 // What completes an observation, and so gets 11, and what does not
 pub(crate) fn times_at_full_count(tally: &mut Tally) -> io::Result<()> {
     let refused = Some(Refusal::Observations);
-    let sums = Sums {
-        count: MOST_COUNT,
-        ..USUAL
-    };
     // 250 ms, and a late report
     for (time, expected) in [(10_250_000_000, None), (LATEST, refused), (0, None)] {
         let mut report = packets(3);
         report.times.value = time;
-        tally.report_to(sums, report, expected)?;
+        tally.report_to(FULL_COUNT, report, expected)?;
     }
-    let full = controller(tally.use_byte_loss_ratio, sums);
-    let first = without_reference(full);
+    let full = tally.controller(FULL_COUNT);
+    let mut first = full;
+    first.observations.last_send_time_most_recent_observation = Timestamp::DistantFuture;
     tally.judge("the first report", first, send(completing(3), first), None)?;
-    let unset = without_estimate(full);
+    let mut unset = full;
+    unset.estimator.current_estimate.loss_limited_bandwidth = Bitrate::NEG_INFINITY;
     let answer = send(completing(3), unset);
     tally.judge("without an estimate", unset, answer, refused)
 }
@@ -213,25 +209,11 @@ pub(crate) fn times_at_full_count(tally: &mut Tally) -> io::Result<()> {
 
 pub(crate) fn empty_reports(tally: &mut Tally) -> io::Result<()> {
     tally.report(packets(0), None)?;
-    let full = Sums {
-        count: MOST_COUNT,
-        packets: MOST_PACKETS,
-        bytes: MOST_BYTES,
-    };
     for sums in [
-        Sums {
-            bytes: MOST_BYTES,
-            ..USUAL
-        },
-        Sums {
-            packets: MOST_PACKETS,
-            ..USUAL
-        },
-        Sums {
-            count: MOST_COUNT,
-            ..USUAL
-        },
-        full,
+        FULL_BYTES,
+        FULL_PACKETS,
+        FULL_COUNT,
+        FULL,
         Sums {
             count: u64::MAX,
             packets: u64::MAX,
@@ -240,7 +222,9 @@ pub(crate) fn empty_reports(tally: &mut Tally) -> io::Result<()> {
     ] {
         tally.report_to(sums, packets(0), None)?;
     }
-    let mut negative = packets(0);
-    negative.delay = -1.0;
-    tally.report_to(full, negative, Some(Refusal::Rate))
+    let negative = Report {
+        delay: -1.0,
+        ..packets(0)
+    };
+    tally.report_to(FULL, negative, Some(Refusal::Rate))
 }

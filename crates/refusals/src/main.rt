@@ -10,7 +10,6 @@ mod calls;
 mod controllers;
 mod limits;
 mod order;
-mod print;
 mod reports;
 mod summaries;
 mod values;
@@ -38,7 +37,7 @@ fn main(rt: HostRuntime) -> io::Result<()> {
     println!(rt; "by packets")?;
     tally.use_byte_loss_ratio = false;
     all_cases(&mut tally)?;
-    tally.print()
+    println!(rt; "cases {}, mismatches {}", tally.cases, tally.mismatches)
 }
 
 fn all_cases(tally: &mut Tally) -> io::Result<()> {

@@ -1,7 +1,7 @@
 // The order of the codes of a report.
-use crate::controllers::{Sums, USUAL, controller};
-use crate::reports::{Report, completing, marked, packets, send, with_reason};
-use crate::values::{COMPLETING, DELAY, MOST_BYTES, MOST_COUNT, MOST_PACKETS};
+use crate::controllers::{FULL, FULL_COUNT, FULL_PACKETS, Sums, USUAL};
+use crate::reports::{Report, completing, marked, packets, send};
+use crate::values::{COMPLETING, DELAY, MOST_COUNT};
 use crate::verdict::Tally;
 use refusal::Refusal;
 use std::io;
@@ -36,47 +36,33 @@ pub(crate) fn pairs(tally: &mut Tally) -> io::Result<()> {
     // 10 by packets
     let full = Sums {
         count: MOST_COUNT,
-        packets: MOST_PACKETS,
-        ..USUAL
+        ..FULL_PACKETS
     };
     tally.report_to(full, completing(3), Some(Refusal::RunningSums))
 }
 
 // All codes at once, 4 by the flags and by the sizes; then each time the first of them goes.
 pub(crate) fn chain(tally: &mut Tally) -> io::Result<()> {
-    let full = Sums {
-        count: MOST_COUNT,
-        packets: MOST_PACKETS,
-        bytes: MOST_BYTES,
-    };
     let mut report = marked(Some(1), Some(1), Some(1));
     report.times.value = COMPLETING;
     report.delay = -1.0;
-    report.times.length = 4_097;
-    report.sizes.length = 4_097;
-    tally.report_to(full, report, Some(Refusal::UnequalColumns))?;
-    report.sizes.length = 3;
-    report.flags.length = 4_097;
-    tally.report_to(full, report, Some(Refusal::UnequalColumns))?;
-    report.sizes.length = 4_097;
-    tally.report_to(full, report, Some(Refusal::TooManyPackets))?;
-    report.times.length = 3;
-    report.sizes.length = 3;
-    report.flags.length = 3;
-    tally.report_to(full, report, Some(Refusal::Rate))?;
+    report = report.with_lengths(4_097, 4_097, 3);
+    tally.report_to(FULL, report, Some(Refusal::UnequalColumns))?;
+    report = report.with_lengths(4_097, 3, 4_097);
+    tally.report_to(FULL, report, Some(Refusal::UnequalColumns))?;
+    report = report.with_lengths(4_097, 4_097, 4_097);
+    tally.report_to(FULL, report, Some(Refusal::TooManyPackets))?;
+    report = report.with_lengths(3, 3, 3);
+    tally.report_to(FULL, report, Some(Refusal::Rate))?;
     report.delay = DELAY;
-    tally.report_to(full, report, Some(Refusal::Time))?;
-    report.times.odd_at = None;
-    tally.report_to(full, report, Some(Refusal::PacketSize))?;
-    report.sizes.odd_at = None;
-    tally.report_to(full, report, Some(Refusal::Flag))?;
-    report.flags.odd_at = None;
-    tally.report_to(full, report, Some(Refusal::RunningSums))?;
-    let count = Sums {
-        count: MOST_COUNT,
-        ..USUAL
-    };
-    tally.report_to(count, report, Some(Refusal::Observations))
+    tally.report_to(FULL, report, Some(Refusal::Time))?;
+    report.times.odd = None;
+    tally.report_to(FULL, report, Some(Refusal::PacketSize))?;
+    report.sizes.odd = None;
+    tally.report_to(FULL, report, Some(Refusal::Flag))?;
+    report.flags.odd = None;
+    tally.report_to(FULL, report, Some(Refusal::RunningSums))?;
+    tally.report_to(FULL_COUNT, report, Some(Refusal::Observations))
 }
 
 // The first packet that has a code wins, and in one packet 3 comes before 17, and 17 before 8.
@@ -119,20 +105,15 @@ impl Tally {
     // A report that has both reasons, from its packets or from the controller, and gets the first.
     fn pair(&mut self, first: Refusal, second: Option<Refusal>) -> io::Result<()> {
         let mut sums = USUAL;
-        if first == Refusal::RunningSums || second == Some(Refusal::RunningSums) {
-            sums.bytes = MOST_BYTES;
-        }
-        if first == Refusal::Observations || second == Some(Refusal::Observations) {
-            sums.count = MOST_COUNT;
-        }
         let mut report = packets(3);
-        if let Some(reason) = second {
-            report = with_reason(report, reason);
+        for reason in second.iter().chain(&[first]) {
+            sums = sums.with_reason(*reason);
+            report = report.with_reason(*reason);
         }
-        let start = controller(self.use_byte_loss_ratio, sums);
-        let answer = send(with_reason(report, first), start);
-        let codes = (u8::from(first), second.map_or(0, u8::from));
-        let case = format_args!("codes {} and {}", codes.0, codes.1);
+        let start = self.controller(sums);
+        let answer = send(report, start);
+        let (code, other_code) = (u8::from(first), second.map_or(0, u8::from));
+        let case = format_args!("codes {code} and {other_code}");
         self.judge(case, start, answer, Some(first))
     }
 }

@@ -1,7 +1,6 @@
 // Reports of packets, how they are sent and how they are printed.
-use crate::controllers::{Sums, USUAL, controller};
-use crate::print::Bits;
-use crate::values::{COMPLETING, DELAY, SOON, TOO_LARGE, TOO_LATE};
+use crate::controllers::{Sums, USUAL};
+use crate::values::{COMPLETING, DELAY, NO_FLAG, SOON, TOO_LARGE, TOO_LATE};
 use crate::verdict::Tally;
 use bandwidth::Bitrate;
 use loss_controller::LossController;
@@ -12,13 +11,12 @@ use std::{fmt, io};
 // The most places that a column has
 const PLACES: usize = 4_097;
 
-// The same value in each place of a column, but for an odd one
+// The same value in each place of a column, but for an odd one at a place of its own
 #[derive(Clone, Copy)]
 pub(crate) struct Column<T> {
     pub(crate) length: usize,
     pub(crate) value: T,
-    pub(crate) odd: T,
-    pub(crate) odd_at: Option<usize>,
+    pub(crate) odd: Option<(usize, T)>,
 }
 
 // Packets in three columns: when they were sent, their bytes, and 1 for those that are lost
@@ -33,24 +31,9 @@ pub(crate) struct Report {
 // So many packets of 1,000 bytes that arrived, too soon to complete an observation.
 pub(crate) fn packets(length: usize) -> Report {
     Report {
-        times: Column {
-            length,
-            value: SOON,
-            odd: TOO_LATE,
-            odd_at: None,
-        },
-        sizes: Column {
-            length,
-            value: 1_000,
-            odd: TOO_LARGE,
-            odd_at: None,
-        },
-        flags: Column {
-            length,
-            value: 0,
-            odd: 2,
-            odd_at: None,
-        },
+        times: Column::new(length, SOON),
+        sizes: Column::new(length, 1_000),
+        flags: Column::new(length, 0),
         delay: DELAY,
     }
 }
@@ -65,46 +48,53 @@ pub(crate) fn completing(n: usize) -> Report {
 // Three packets with a time, a size and a flag that is refused at these places.
 pub(crate) fn marked(time: Option<usize>, size: Option<usize>, flag: Option<usize>) -> Report {
     let mut report = packets(3);
-    report.times.odd_at = time;
-    report.sizes.odd_at = size;
-    report.flags.odd_at = flag;
+    report.times.odd = time.map(|place| (place, TOO_LATE));
+    report.sizes.odd = size.map(|place| (place, TOO_LARGE));
+    report.flags.odd = flag.map(|place| (place, NO_FLAG));
     report
 }
 
-// Columns of these lengths.
-pub(crate) fn of_lengths(times: usize, sizes: usize, flags: usize) -> Report {
-    let mut report = packets(times);
-    report.sizes.length = sizes;
-    report.flags.length = flags;
-    report
-}
-
-// What earns the refusal, as far as it lies in the report.
-pub(crate) fn with_reason(mut report: Report, reason: Refusal) -> Report {
-    match reason {
-        Refusal::Rate => report.delay = -1.0,
-        Refusal::Time => report.times.odd_at = Some(1),
-        Refusal::UnequalColumns => report.sizes.length = 2,
-        Refusal::TooManyPackets => {
-            report.times.length = PLACES;
-            report.sizes.length = PLACES;
-            report.flags.length = PLACES;
-        }
-        Refusal::Flag => report.flags.odd_at = Some(1),
-        Refusal::Observations => report.times.value = COMPLETING,
-        Refusal::PacketSize => report.sizes.odd_at = Some(1),
-        _ => {}
+impl Report {
+    // With columns of these lengths
+    pub(crate) fn with_lengths(mut self, times: usize, sizes: usize, flags: usize) -> Report {
+        self.times.length = times;
+        self.sizes.length = sizes;
+        self.flags.length = flags;
+        self
     }
-    report
+
+    // With what earns the refusal, as far as it lies in the report
+    pub(crate) fn with_reason(mut self, reason: Refusal) -> Report {
+        match reason {
+            Refusal::Rate => self.delay = -1.0,
+            Refusal::Time => self.times.odd = Some((1, TOO_LATE)),
+            Refusal::UnequalColumns => self.sizes.length = 2,
+            Refusal::TooManyPackets => self = self.with_lengths(PLACES, PLACES, PLACES),
+            Refusal::Flag => self.flags.odd = Some((1, NO_FLAG)),
+            Refusal::Observations => self.times.value = COMPLETING,
+            Refusal::PacketSize => self.sizes.odd = Some((1, TOO_LARGE)),
+            _ => {}
+        }
+        self
+    }
 }
 
 impl<T: Copy> Column<T> {
+    // With nothing odd yet
+    fn new(length: usize, value: T) -> Column<T> {
+        Column {
+            length,
+            value,
+            odd: None,
+        }
+    }
+
     fn filled(self) -> [T; PLACES] {
         let mut column = [self.value; PLACES];
-        if let Some(place) = self.odd_at
+        if let Some((place, odd)) = self.odd
             && place < PLACES
         {
-            column[place] = self.odd;
+            column[place] = odd;
         }
         column
     }
@@ -136,22 +126,22 @@ impl fmt::Display for Report {
             times.length, sizes.length, flags.length
         )?;
         write!(f, " of {} bytes at {}", sizes.value, times.value)?;
-        if let Some(place) = times.odd_at {
-            write!(f, ", packet {place} at {}", times.odd)?;
+        if let Some((place, time)) = times.odd {
+            write!(f, ", packet {place} at {time}")?;
         }
-        if let Some(place) = sizes.odd_at {
-            write!(f, ", packet {place} of {} bytes", sizes.odd)?;
+        if let Some((place, size)) = sizes.odd {
+            write!(f, ", packet {place} of {size} bytes")?;
         }
-        if let Some(place) = flags.odd_at {
-            write!(f, ", packet {place} with flag {}", flags.odd)?;
+        if let Some((place, flag)) = flags.odd {
+            write!(f, ", packet {place} with flag {flag}")?;
         }
-        write!(f, ", delay {}", Bits(delay))
+        write!(f, ", delay {:016x}", float::to_bits(delay))
     }
 }
 
 impl Tally {
     pub(crate) fn report(&mut self, report: Report, expected: Option<Refusal>) -> io::Result<()> {
-        let start = controller(self.use_byte_loss_ratio, USUAL);
+        let start = self.controller(USUAL);
         self.judge(report, start, send(report, start), expected)
     }
 
@@ -162,7 +152,7 @@ impl Tally {
         report: Report,
         expected: Option<Refusal>,
     ) -> io::Result<()> {
-        let start = controller(self.use_byte_loss_ratio, sums);
+        let start = self.controller(sums);
         let case = format_args!("{sums}, {report}");
         self.judge(case, start, send(report, start), expected)
     }

@@ -1,7 +1,6 @@
 // Packets that are summed up already: codes 5, 2, 3, 10, 11, in this order.
-use crate::controllers::{Sums, USUAL, controller};
-use crate::print::Bits;
-use crate::values::{COMPLETING, DELAY, LATEST, MOST_BYTES, MOST_COUNT, SOON, TOO_LATE};
+use crate::controllers::{FULL_BYTES, FULL_COUNT, Sums, USUAL};
+use crate::values::{COMPLETING, DELAY, LATEST, MOST_COUNT, SOON, TOO_LATE};
 use crate::verdict::Tally;
 use bandwidth::Bitrate;
 use packets::PacketResultsSummary;
@@ -9,17 +8,9 @@ use refusal::Refusal;
 use std::io;
 
 pub(crate) fn summaries(tally: &mut Tally) -> io::Result<()> {
-    let bytes = Sums {
-        bytes: MOST_BYTES,
-        ..USUAL
-    };
-    let count = Sums {
-        count: MOST_COUNT,
-        ..USUAL
-    };
     let both = Sums {
         count: MOST_COUNT,
-        ..bytes
+        ..FULL_BYTES
     };
     for (sums, time, delay, expected) in [
         (USUAL, SOON, DELAY, None),
@@ -27,18 +18,19 @@ pub(crate) fn summaries(tally: &mut Tally) -> io::Result<()> {
         (USUAL, LATEST, DELAY, None),
         (USUAL, SOON, -1.0, Some(Refusal::Rate)),
         (USUAL, TOO_LATE, DELAY, Some(Refusal::Time)),
-        (bytes, SOON, DELAY, Some(Refusal::RunningSums)),
-        (count, COMPLETING, DELAY, Some(Refusal::Observations)),
+        (FULL_BYTES, SOON, DELAY, Some(Refusal::RunningSums)),
+        (FULL_COUNT, COMPLETING, DELAY, Some(Refusal::Observations)),
         (USUAL, TOO_LATE, -1.0, Some(Refusal::Rate)),
-        (bytes, SOON, -1.0, Some(Refusal::Rate)),
-        (count, COMPLETING, -1.0, Some(Refusal::Rate)),
-        (bytes, TOO_LATE, DELAY, Some(Refusal::Time)),
-        (count, TOO_LATE, DELAY, Some(Refusal::Time)),
+        (FULL_BYTES, SOON, -1.0, Some(Refusal::Rate)),
+        (FULL_COUNT, COMPLETING, -1.0, Some(Refusal::Rate)),
+        (FULL_BYTES, TOO_LATE, DELAY, Some(Refusal::Time)),
+        (FULL_COUNT, TOO_LATE, DELAY, Some(Refusal::Time)),
         (both, COMPLETING, DELAY, Some(Refusal::RunningSums)),
     ] {
-        let start = controller(tally.use_byte_loss_ratio, sums);
+        let start = tally.controller(sums);
         let answer = start.update_with_summary(summary_at(time), Bitrate { bps: delay });
-        let case = format_args!("{sums}, summary at {time}, delay {}", Bits(delay));
+        let delay = float::to_bits(delay);
+        let case = format_args!("{sums}, summary at {time}, delay {delay:016x}");
         tally.judge(case, start, answer, expected)?;
     }
     Ok(())
@@ -92,18 +84,10 @@ pub(crate) fn no_report_first(tally: &mut Tally) -> io::Result<()> {
         last_send_time: COMPLETING,
         ..late
     };
-    let bytes = Sums {
-        bytes: MOST_BYTES,
-        ..USUAL
-    };
-    let count = Sums {
-        count: MOST_COUNT,
-        ..USUAL
-    };
     tally.totals(USUAL, late, DELAY, refused)?;
     tally.totals(USUAL, late, -1.0, refused)?;
-    tally.totals(bytes, completing, DELAY, refused)?;
-    tally.totals(count, completing, DELAY, refused)
+    tally.totals(FULL_BYTES, completing, DELAY, refused)?;
+    tally.totals(FULL_COUNT, completing, DELAY, refused)
 }
 
 impl Tally {
@@ -121,11 +105,11 @@ impl Tally {
             lost_size,
             last_send_time,
         } = summary;
-        let start = controller(self.use_byte_loss_ratio, sums);
+        let start = self.controller(sums);
         let answer = start.update_with_summary(summary, Bitrate { bps: delay });
-        let delay = Bits(delay);
+        let delay = float::to_bits(delay);
         let case = format_args!(
-            "{sums}, totals {num_packets}, {num_lost_packets}, {total_size}, {lost_size} at {last_send_time}, delay {delay}"
+            "{sums}, totals {num_packets}, {num_lost_packets}, {total_size}, {lost_size} at {last_send_time}, delay {delay:016x}"
         );
         self.judge(case, start, answer, expected)
     }

@@ -10,6 +10,8 @@ pub(crate) const LARGEST: PacketSize = 9_999_999;
 
 pub(crate) const TOO_LARGE: PacketSize = 10_000_000;
 
+pub(crate) const NO_FLAG: u8 = 2;
+
 pub(crate) const MOST_BYTES: u64 = 1_000_000_000_000;
 
 pub(crate) const MOST_PACKETS: u64 = 1_000_000_000;

@@ -1,6 +1,5 @@
 // What a case came to, printed and counted.
-use crate::controllers::Sums;
-use crate::print::Bits;
+use crate::controllers::{Sums, controller};
 use comparison::Changes;
 use loss_controller::LossController;
 use refusal::Refusal;
@@ -17,6 +16,10 @@ pub(crate) struct Tally {
 }
 
 impl Tally {
+    pub(crate) fn controller(&self, sums: Sums) -> LossController {
+        controller(self.use_byte_loss_ratio, sums)
+    }
+
     pub(crate) fn judge(
         &mut self,
         case: impl fmt::Display + Drop,
@@ -25,7 +28,7 @@ impl Tally {
         expected: Option<Refusal>,
     ) -> io::Result<()> {
         let refusal = answer.err();
-        let code = refusal.map_or(0, u8::from);
+        let code = refusal::number(&answer);
         let expected_code = expected.map_or(0, u8::from);
         print!(self.out; "{case}: {code}, expected {expected_code}, ")?;
         // A call that is refused leaves the controller as it is.
@@ -41,10 +44,6 @@ impl Tally {
         }
         Ok(())
     }
-
-    pub(crate) fn print(&self) -> io::Result<()> {
-        println!(self.out; "cases {}, mismatches {}", self.cases, self.mismatches)
-    }
 }
 
 // What the controller holds after a call that is taken.
@@ -59,8 +58,8 @@ impl fmt::Display for Held {
             packets: observations.partial_observation.num_packets,
             bytes: observations.partial_observation.size,
         };
-        let delay = Bits(self.0.inputs.delay_based_estimate.bps);
-        write!(f, "{sums}, delay {delay}")
+        let delay = self.0.inputs.delay_based_estimate.to_bits();
+        write!(f, "{sums}, delay {delay:016x}")
     }
 }
 

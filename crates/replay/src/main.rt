@@ -6,22 +6,13 @@
 mod operations;
 mod results;
 
-use crate::operations::Call;
+use crate::operations::{Call, LINE};
 use std::io;
 use streams::Lines;
 
 fn main(rt: HostRuntime) -> io::Result<()> {
-    for line in Lines::<_, 54>::new(rt.stdin()) {
-        println!(rt; "{}", call_of(line?).answer())?;
+    for line in Lines::<_, LINE>::new(rt.stdin()) {
+        println!(rt; "{}", Call::from(line?).answer())?;
     }
     Ok(())
-}
-
-fn call_of(line: [u8; 54]) -> Call {
-    Call {
-        operation: hexadecimal::number(&line[0..2]),
-        a: hexadecimal::number(&line[3..19]),
-        b: hexadecimal::number(&line[20..36]),
-        c: hexadecimal::number(&line[37..53]),
-    }
 }

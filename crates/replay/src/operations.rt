@@ -1,16 +1,32 @@
 // The operations of the arithmetic, by their numbers.
-use crate::results::{Answer, delta, part, refusable, refusable_part, taken};
+use crate::results::{part, refusable, refusable_part, taken};
 use bandwidth::{Bitrate, DataSize};
 use duration::Duration;
+use hexadecimal::Answer;
+use stored_fields::Pair;
 use time::{TimeDelta, Timestamp};
+
+// The bytes of a line: two digits and three times sixteen, a space or the newline behind each
+pub(crate) const LINE: usize = 54;
 
 // What a line says: an operation by its number, and its operands.
 #[derive(Clone, Copy)]
 pub(crate) struct Call {
-    pub(crate) operation: u64,
-    pub(crate) a: u64,
-    pub(crate) b: u64,
-    pub(crate) c: u64,
+    operation: u64,
+    a: u64,
+    b: u64,
+    c: u64,
+}
+
+impl From<[u8; LINE]> for Call {
+    fn from(line: [u8; LINE]) -> Call {
+        Call {
+            operation: hexadecimal::number(&line[0..2]),
+            a: hexadecimal::number(&line[3..19]),
+            b: hexadecimal::number(&line[20..36]),
+            c: hexadecimal::number(&line[37..53]),
+        }
+    }
 }
 
 impl Call {
@@ -23,6 +39,19 @@ impl Call {
             _ => delta_answer(self),
         }
     }
+
+    // Two times: c has the case of each, a and b their ns.
+    fn pairs(self) -> (Pair, Pair) {
+        let first = Pair {
+            case: self.c % 16,
+            value: self.a,
+        };
+        let second = Pair {
+            case: self.c / 16,
+            value: self.b,
+        };
+        (first, second)
+    }
 }
 
 fn float_answer(call: Call) -> Answer {
@@ -34,12 +63,12 @@ fn float_answer(call: Call) -> Answer {
         0x00 => taken(float::min(x, y)),
         0x01 => taken(float::max(x, y)),
         0x02 => refusable(float::clamp(x, y, z)),
-        0x03 => taken(float::abs(x)),
-        0x04 => taken(float::is_finite(x)),
-        0x05 => taken(float::ceil(x)),
-        0x06 => taken(float::round(x)),
-        0x07 => taken(float::as_i64(x)),
-        0x08 => taken(float::as_u64(x)),
+        0x03 => taken(x.abs()),
+        0x04 => taken(x.is_finite()),
+        0x05 => taken(x.ceil()),
+        0x06 => taken(x.round()),
+        0x07 => taken(std::num::saturating_f64_to_i64(x)),
+        0x08 => taken(std::num::saturating_f64_to_u64(x)),
         _ => taken(x),
     }
 }
@@ -47,9 +76,9 @@ fn float_answer(call: Call) -> Answer {
 fn rate_answer(call: Call) -> Answer {
     let Call { operation, a, b, c } = call;
     let y = float::from_bits(b);
-    let rate = stored_fields::rate(a);
-    let other = stored_fields::rate(b);
-    let third = stored_fields::rate(c);
+    let rate = Bitrate::from_bits(a);
+    let other = Bitrate::from_bits(b);
+    let third = Bitrate::from_bits(c);
     match operation {
         0x10 => taken(Bitrate::ZERO),
         0x11 => taken(Bitrate::MAX),
@@ -122,16 +151,22 @@ fn size_answer(call: Call) -> Answer {
 }
 
 fn time_answer(call: Call) -> Answer {
-    let Call { operation, a, b, c } = call;
-    let time = stored_fields::timestamp(c % 16, a);
-    let other = stored_fields::timestamp(c / 16, b);
-    let by = delta(c / 16, b);
+    let Call {
+        operation,
+        a,
+        b,
+        ..
+    } = call;
+    let (first, second) = call.pairs();
+    let time = Timestamp::from(first);
+    let other = Timestamp::from(second);
+    let by = TimeDelta::from(second);
     let span = Duration { nanos: b };
     match operation {
-        0x60 | 0x61 | 0x6E | 0x6F => refusable_part(operation, time.add_delta(by)),
-        0x62 | 0x63 | 0x70 | 0x71 => refusable_part(operation, time.sub_delta(by)),
-        0x64 | 0x65 | 0x72 | 0x73 => refusable_part(operation, time.add_duration(span)),
-        0x66 | 0x67 | 0x74 | 0x75 => refusable_part(operation, time.sub_duration(span)),
+        0x60 | 0x61 | 0x6E | 0x6F => refusable_part(operation, time.add(by)),
+        0x62 | 0x63 | 0x70 | 0x71 => refusable_part(operation, time.sub(by)),
+        0x64 | 0x65 | 0x72 | 0x73 => refusable_part(operation, time.add(span)),
+        0x66 | 0x67 | 0x74 | 0x75 => refusable_part(operation, time.sub(span)),
         0x68 | 0x69 => part(operation, time - other),
         0x6A | 0x6B => part(operation, time - b),
         0x6C | 0x6D => part(operation, Timestamp::from(a)),
@@ -146,9 +181,15 @@ fn time_answer(call: Call) -> Answer {
 }
 
 fn delta_answer(call: Call) -> Answer {
-    let Call { operation, a, b, c } = call;
-    let first = delta(c % 16, a);
-    let second = delta(c / 16, b);
+    let Call {
+        operation,
+        a,
+        b,
+        ..
+    } = call;
+    let (first, second) = call.pairs();
+    let first = TimeDelta::from(first);
+    let second = TimeDelta::from(second);
     let span = TimeDelta::from(Duration { nanos: b });
     match operation {
         0x80 | 0x81 => part(operation, TimeDelta::ZERO),

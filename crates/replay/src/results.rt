@@ -1,29 +1,15 @@
 // Operands and results as 64 bits.
 use bandwidth::{Bitrate, DataSize};
 use duration::Duration;
+use hexadecimal::Answer;
 use refusal::Refusal;
 use std::cmp::Ordering;
-use std::fmt;
+use stored_fields::Pair;
 use time::{TimeDelta, Timestamp};
-
-// What a call answers: the result as 64 bits, and beside a refusal those of zero.
-#[derive(Clone, Copy)]
-pub(crate) struct Answer {
-    refusal: Option<Refusal>,
-    result: u64,
-}
-
-impl fmt::Display for Answer {
-    fn fmt<W: fmt::Write>(&self, f: &mut fmt::Formatter<W>) -> fmt::Result {
-        let refusal = self.refusal.map_or(0, u8::from);
-        let result = self.result;
-        write!(f, "{refusal:x} {result:016x}")
-    }
-}
 
 pub(crate) fn taken(value: impl Bits) -> Answer {
     Answer {
-        refusal: None,
+        refusal: 0,
         result: value.bits(),
     }
 }
@@ -32,7 +18,7 @@ pub(crate) fn refusable(value: Result<impl Bits, Refusal>) -> Answer {
     match value {
         Ok(value) => taken(value),
         Err(refusal) => Answer {
-            refusal: Some(refusal),
+            refusal: u8::from(refusal),
             result: 0,
         },
     }
@@ -75,7 +61,7 @@ impl Bits for f64 {
 
 impl Bits for Bitrate {
     fn bits(self) -> u64 {
-        stored_fields::rate_bits(self)
+        self.to_bits()
     }
 }
 
@@ -115,69 +101,32 @@ impl Bits for Option<Ordering> {
 
 // ---- times: an operation that answers one has an even number for its case and the next one for its ns
 
-pub(crate) trait Time {
+pub(crate) trait Zero {
     const ZERO: Self;
-
-    fn case(self) -> u64;
-
-    fn ns(self) -> u64;
 }
 
-pub(crate) fn part(operation: u64, time: impl Time) -> Answer {
-    taken(if operation % 2 == 0 {
-        time.case()
-    } else {
-        time.ns()
-    })
+impl Zero for Timestamp {
+    const ZERO: Timestamp = Timestamp::Exact(0);
 }
 
-pub(crate) fn refusable_part<T: Time>(operation: u64, time: Result<T, Refusal>) -> Answer {
+impl Zero for TimeDelta {
+    const ZERO: TimeDelta = TimeDelta::ZERO;
+}
+
+pub(crate) fn part(operation: u64, time: impl Into<Pair>) -> Answer {
+    let Pair { case, value } = time.into();
+    taken(if operation % 2 == 0 { case } else { value })
+}
+
+pub(crate) fn refusable_part<T: Zero + Into<Pair>>(
+    operation: u64,
+    time: Result<T, Refusal>,
+) -> Answer {
     match time {
         Ok(time) => part(operation, time),
         Err(refusal) => Answer {
-            refusal: Some(refusal),
+            refusal: u8::from(refusal),
             ..part(operation, T::ZERO)
         },
-    }
-}
-
-impl Time for Timestamp {
-    const ZERO: Timestamp = Timestamp::Exact(0);
-
-    fn case(self) -> u64 {
-        stored_fields::timestamp_case(self)
-    }
-
-    fn ns(self) -> u64 {
-        stored_fields::timestamp_ns(self)
-    }
-}
-
-impl Time for TimeDelta {
-    const ZERO: TimeDelta = TimeDelta::ZERO;
-
-    fn case(self) -> u64 {
-        match self {
-            TimeDelta::NegativeInfinity => 0,
-            TimeDelta::Negative(_) => 1,
-            TimeDelta::Positive(_) => 2,
-            TimeDelta::PositiveInfinity => 3,
-        }
-    }
-
-    fn ns(self) -> u64 {
-        match self {
-            TimeDelta::Negative(d) | TimeDelta::Positive(d) => d.nanos,
-            TimeDelta::NegativeInfinity | TimeDelta::PositiveInfinity => 0,
-        }
-    }
-}
-
-pub(crate) fn delta(case: u64, nanos: u64) -> TimeDelta {
-    match case {
-        0 => TimeDelta::NegativeInfinity,
-        1 => TimeDelta::Negative(Duration { nanos }),
-        2 => TimeDelta::Positive(Duration { nanos }),
-        _ => TimeDelta::PositiveInfinity,
     }
 }

@@ -8,11 +8,15 @@ use bandwidth::Bitrate;
 use loss_controller::LossController;
 use packets::{PacketResult, PacketSize};
 use refusal::Refusal;
-use std::io;
+use std::{fmt, io};
+use stored_fields::Pair;
 use streams::Lines;
 
+// The bytes of a line: four times sixteen digits, a space or the newline behind each
+const LINE: usize = 68;
+
 // The queue's places
-const PLACES: usize = 4_096;
+const PLACES: usize = packets::MOST_PACKETS_IN_REPORT;
 
 #[derive(Clone, Copy)]
 struct Call {
@@ -22,65 +26,72 @@ struct Call {
     c: u64,
 }
 
-// The controller and the queue, in columns
+// The controller and the queue
 #[derive(Drop)]
 struct Machine {
     controller: LossController,
-    times: ArrayVec<u64, PLACES>,
-    sizes: ArrayVec<PacketSize, PLACES>,
-    flags: ArrayVec<u8, PLACES>,
+    packets: ArrayVec<PacketResult, PLACES>,
 }
 
 fn main(rt: HostRuntime) -> io::Result<()> {
     let mut machine = Machine::new();
-    for line in Lines::<_, 68>::new(rt.stdin()) {
-        let refusal = machine.take(call_of(line?)).err();
-        print_answer(&rt, refusal, machine.controller)?;
+    for line in Lines::<_, LINE>::new(rt.stdin()) {
+        let outcome = machine.take(Call::from(line?));
+        let controller = machine.controller;
+        println!(rt;
+            "{}",
+            Answer {
+                outcome,
+                controller
+            }
+        )?;
     }
     Ok(())
 }
 
 // ---- calls
 
-fn call_of(line: [u8; 68]) -> Call {
-    Call {
-        kind: hexadecimal::number(&line[0..16]),
-        a: hexadecimal::number(&line[17..33]),
-        b: hexadecimal::number(&line[34..50]),
-        c: hexadecimal::number(&line[51..67]),
+impl From<[u8; LINE]> for Call {
+    fn from(line: [u8; LINE]) -> Call {
+        Call {
+            kind: hexadecimal::number(&line[0..16]),
+            a: hexadecimal::number(&line[17..33]),
+            b: hexadecimal::number(&line[34..50]),
+            c: hexadecimal::number(&line[51..67]),
+        }
     }
 }
 
 impl Call {
     fn rate(self) -> Bitrate {
-        stored_fields::rate(self.a)
+        Bitrate::from_bits(self.a)
     }
 
     fn packet(self) -> PacketResult {
         PacketResult {
             local_send_time: self.a,
-            size: (self.c % 4_294_967_296) as PacketSize,
+            size: (self.c % 0x1_0000_0000) as PacketSize,
             // A number that is no byte is no flag either.
             lost: u8::try_from(self.b).unwrap_or(u8::MAX),
         }
     }
 
-    // The value where the flag says that there is one
-    fn option<T: Drop>(self, value: T) -> Result<Option<T>, Refusal> {
+    fn flag(self) -> Result<bool, Refusal> {
         match self.b {
-            0 => Ok(None),
-            1 => Ok(Some(value)),
+            0 => Ok(false),
+            1 => Ok(true),
             _ => Err(Refusal::Flag),
         }
     }
 
+    // The value where the flag says that there is one
+    fn option<T: Drop>(self, value: T) -> Result<Option<T>, Refusal> {
+        Ok(self.flag()?.then_some(value))
+    }
+
     // By bytes or by packets
     fn started(self) -> Result<LossController, Refusal> {
-        match self.b {
-            0 => Ok(LossController::new()),
-            1 => Ok(LossController::with_profile(false)),
-            _ => Err(Refusal::Flag),
-        }
+        Ok(LossController::with_profile(!self.flag()?))
     }
 }
 
@@ -90,9 +101,7 @@ impl Machine {
     fn new() -> Machine {
         Machine {
             controller: LossController::new(),
-            times: ArrayVec::new(),
-            sizes: ArrayVec::new(),
-            flags: ArrayVec::new(),
+            packets: ArrayVec::new(),
         }
     }
 
@@ -111,7 +120,7 @@ impl Machine {
             6 => self.report(call.rate())?,
             8 => {
                 let started = call.started()?;
-                self.empty();
+                self.packets.clear();
                 started
             }
             // A packet that is not asked
@@ -125,27 +134,25 @@ impl Machine {
     }
 
     fn queue(&mut self, packet: PacketResult) -> Result<(), Refusal> {
-        self.times.try_push(packet.local_send_time).map_err(full)?;
-        self.sizes.try_push(packet.size).map_err(full)?;
-        self.flags.try_push(packet.lost).map_err(full)
+        self.packets.try_push(packet).map_err(full)
     }
 
     // A report empties the queue, refused or not.
     fn report(&mut self, delay: Bitrate) -> Result<LossController, Refusal> {
-        let answer = self.controller.update_bandwidth_estimate(
-            self.times.as_slice(),
-            self.sizes.as_slice(),
-            self.flags.as_slice(),
+        let mut times = ArrayVec::<u64, PLACES>::new();
+        let mut sizes = ArrayVec::<PacketSize, PLACES>::new();
+        let mut flags = ArrayVec::<u8, PLACES>::new();
+        for packet in self.packets.drain(..) {
+            times.try_push(packet.local_send_time).map_err(full)?;
+            sizes.try_push(packet.size).map_err(full)?;
+            flags.try_push(packet.lost).map_err(full)?;
+        }
+        self.controller.update_bandwidth_estimate(
+            times.as_slice(),
+            sizes.as_slice(),
+            flags.as_slice(),
             delay,
-        );
-        self.empty();
-        answer
-    }
-
-    fn empty(&mut self) {
-        self.times.clear();
-        self.sizes.clear();
-        self.flags.clear();
+        )
     }
 }
 
@@ -155,20 +162,26 @@ fn full<T: Drop>(_error: CapacityError<T>) -> Refusal {
 
 // ---- answers
 
-fn print_answer(
-    out: &impl Print,
-    refusal: Option<Refusal>,
+// What a call is answered by
+#[derive(Clone, Copy)]
+struct Answer {
+    outcome: Result<(), Refusal>,
     controller: LossController,
-) -> io::Result<()> {
-    let result = controller.loss_based_result();
-    let refusal = refusal.map_or(0, u8::from);
-    let state = u8::from(result.state);
-    let case = stored_fields::option_case(result.bandwidth_estimate);
-    let rate = stored_fields::option_bits(result.bandwidth_estimate);
-    let loss = float::to_bits(controller.inherent_loss());
-    let ratio = float::to_bits(controller.average_reported_loss_ratio().unwrap_or(0.0));
-    let count = controller.num_observations();
-    println!(out;
-        "{refusal:02x} {state:x} {case:x} {rate:016x} {loss:016x} {ratio:016x} {count:08x}"
-    )
+}
+
+impl fmt::Display for Answer {
+    fn fmt<W: fmt::Write>(&self, f: &mut fmt::Formatter<W>) -> fmt::Result {
+        let result = self.controller.loss_based_result();
+        let refusal = refusal::number(&self.outcome);
+        let state = u8::from(result.state);
+        let Pair { case, value: rate } = Pair::from(result.bandwidth_estimate);
+        let loss = float::to_bits(self.controller.inherent_loss());
+        let ratio = self.controller.average_reported_loss_ratio();
+        let ratio = float::to_bits(ratio.unwrap_or(0.0));
+        let count = self.controller.num_observations();
+        write!(
+            f,
+            "{refusal:02x} {state:x} {case:x} {rate:016x} {loss:016x} {ratio:016x} {count:08x}"
+        )
+    }
 }

@@ -39,7 +39,7 @@ fn call_of(line: &[u8; LINE]) -> Call {
         6 => Call::Packet {
             time: number,
             lost: (hexadecimal::number(&line[19..21]) % 256) as u8,
-            size: (hexadecimal::number(&line[22..30]) % 4_294_967_296) as PacketSize,
+            size: (hexadecimal::number(&line[22..30]) % 0x1_0000_0000) as PacketSize,
         },
         7 => Call::Report(number),
         8 => Call::Read,
@@ -51,7 +51,7 @@ fn call_of(line: &[u8; LINE]) -> Call {
 // The refusal, a space, the buffer with the call, and a newline.
 fn print(out: &impl Print, call: Call, buffer: &mut [u8]) -> io::Result<()> {
     let written = call_line::write_line(call, buffer);
-    let refusal = written.err().map_or(0, u8::from);
+    let refusal = refusal::number(&written);
     print!(out; "{refusal:>2} ")?;
     out.write_all(buffer)?;
     out.write_all(b"\n")

@@ -9,19 +9,22 @@ mod print;
 mod report;
 mod steps;
 
-use crate::fields::{read_state, read_summary, state_of};
+use crate::fields::{FIELD, read_controller, read_summary, state_of};
+use crate::report::print_report;
+use crate::steps::{print_candidates, print_likelihood, print_window};
 use std::io;
 use streams::Lines;
 
 fn main(rt: HostRuntime) -> io::Result<()> {
     let input = &mut rt.stdin();
-    for first in Lines::<_, 17>::new(rt.stdin()) {
-        let state = read_state(input, state_of(hexadecimal::number(&first?[0..16])))?;
+    for first in Lines::<_, FIELD>::new(rt.stdin()) {
+        let state = state_of(hexadecimal::number(&first?[0..16]));
+        let controller = read_controller(input, state)?;
         let summary = read_summary(input)?;
-        state.print_window(&rt)?;
-        state.print_likelihood(&rt)?;
-        state.print_candidates(&rt)?;
-        state.print_report(&rt, summary)?;
+        print_window(&rt, controller)?;
+        print_likelihood(&rt, controller)?;
+        print_candidates(&rt, controller)?;
+        print_report(&rt, controller, summary)?;
     }
     Ok(())
 }

@@ -1,103 +1,54 @@
-// Values on standard output, each in its fields.
+// Values as an answer has them: each field in sixteen digits, and a space between two.
 use bandwidth::Bitrate;
-use duration::Duration;
-use estimator::{HoldInfo, LossControllerState, Recovery};
 use likelihood::ChannelParameters;
-use observation::PartialObservation;
 use refusal::Refusal;
-use std::io;
-use time::Timestamp;
+use std::fmt::{self, Display, Formatter};
+use stored_fields::Pair;
 
-pub(crate) trait Fields {
-    fn print(self, out: &impl Print) -> io::Result<()>;
-}
+#[derive(Clone, Copy)]
+pub(crate) struct Fields<T>(pub(crate) T);
 
-impl Fields for u64 {
-    fn print(self, out: &impl Print) -> io::Result<()> {
-        print!(out; "{self:016x} ")
+impl Display for Fields<f64> {
+    fn fmt<W: fmt::Write>(&self, f: &mut Formatter<W>) -> fmt::Result {
+        let bits = float::to_bits(self.0);
+        write!(f, "{bits:016x}")
     }
 }
 
-impl Fields for bool {
-    fn print(self, out: &impl Print) -> io::Result<()> {
-        u64::from(self).print(out)
+impl Display for Fields<Bitrate> {
+    fn fmt<W: fmt::Write>(&self, f: &mut Formatter<W>) -> fmt::Result {
+        Fields(self.0.bps).fmt(f)
     }
 }
 
-impl Fields for f64 {
-    fn print(self, out: &impl Print) -> io::Result<()> {
-        float::to_bits(self).print(out)
+// A value that is stored as a pair
+#[derive(Clone, Copy)]
+pub(crate) struct InPair<T>(pub(crate) T);
+
+impl<T: Copy + Into<Pair>> Display for InPair<T> {
+    fn fmt<W: fmt::Write>(&self, f: &mut Formatter<W>) -> fmt::Result {
+        let Pair { case, value } = self.0.into();
+        write!(f, "{case:016x} {value:016x}")
     }
 }
 
-impl Fields for Bitrate {
-    fn print(self, out: &impl Print) -> io::Result<()> {
-        stored_fields::rate_bits(self).print(out)
-    }
-}
-
-impl Fields for Option<Bitrate> {
-    fn print(self, out: &impl Print) -> io::Result<()> {
-        stored_fields::option_case(self).print(out)?;
-        stored_fields::option_bits(self).print(out)
+impl Display for Fields<ChannelParameters> {
+    fn fmt<W: fmt::Write>(&self, f: &mut Formatter<W>) -> fmt::Result {
+        let inherent_loss = Fields(self.0.inherent_loss);
+        let rate = Fields(self.0.loss_limited_bandwidth);
+        write!(f, "{inherent_loss} {rate}")
     }
 }
 
 // The refusal, and the value, which is zero beside one.
-impl<T: Fields + Drop> Fields for Result<T, Refusal> {
-    fn print(self, out: &impl Print) -> io::Result<()> {
-        match self {
-            Ok(value) => {
-                0u64.print(out)?;
-                value.print(out)
-            }
-            Err(refusal) => {
-                u64::from(u8::from(refusal)).print(out)?;
-                0u64.print(out)
-            }
+impl<T: Copy> Display for Fields<Result<T, Refusal>>
+where
+    Fields<T>: Display,
+{
+    fn fmt<W: fmt::Write>(&self, f: &mut Formatter<W>) -> fmt::Result {
+        match self.0 {
+            Ok(value) => write!(f, "{:016x} {}", 0, Fields(value)),
+            Err(refusal) => write!(f, "{:016x} {:016x}", u8::from(refusal), 0),
         }
-    }
-}
-
-impl Fields for Duration {
-    fn print(self, out: &impl Print) -> io::Result<()> {
-        self.nanos.print(out)
-    }
-}
-
-impl Fields for Timestamp {
-    fn print(self, out: &impl Print) -> io::Result<()> {
-        stored_fields::timestamp_case(self).print(out)?;
-        stored_fields::timestamp_ns(self).print(out)
-    }
-}
-
-impl Fields for ChannelParameters {
-    fn print(self, out: &impl Print) -> io::Result<()> {
-        self.inherent_loss.print(out)?;
-        self.loss_limited_bandwidth.print(out)
-    }
-}
-
-impl Fields for PartialObservation {
-    fn print(self, out: &impl Print) -> io::Result<()> {
-        self.num_packets.print(out)?;
-        self.num_lost_packets.print(out)?;
-        self.size.print(out)?;
-        self.lost_size.print(out)
-    }
-}
-
-impl Fields for LossControllerState {
-    fn print(self, out: &impl Print) -> io::Result<()> {
-        u64::from(u8::from(self)).print(out)
-    }
-}
-
-impl Fields for HoldInfo {
-    fn print(self, out: &impl Print) -> io::Result<()> {
-        self.timestamp.print(out)?;
-        self.duration.print(out)?;
-        self.rate.print(out)
     }
 }

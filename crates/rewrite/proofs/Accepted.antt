@@ -18,7 +18,7 @@ use Rattle.call_list.specs.Made.{Writable, list_text}
 use Rattle.call_list.proofs.Made.{clear_line, list_read}
 use Rattle.rewrite.specs.Rewrite.{rewritten_from, rewritten, closed, Say, none, one, AllWide}
 use Rattle.rewrite.specs.Rewrite.{ListWritten, OpenWritten, SameCalls, ListComesBack, OpenComesBack}
-use Rattle.rewrite.proofs.Rewriting.{none_last, last_text}
+use Rattle.rewrite.proofs.Telling.{none_last, last_text}
 
 -- ---- lines that are taken
 

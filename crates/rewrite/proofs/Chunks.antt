@@ -1,127 +1,81 @@
 -- In any chunks, the program writes the texts of the lines of the whole input. Assumes nothing.
-use Prim.Native.Nat.{ℕ, ◌+◌, ◌-◌, ◌^◌, ◌≤◌, ◌<◌}
-use mathlib.Core.Path.{◌≡◌, refl, sym, ap, ◌∙◌}
-use mathlib.Core.Bool.{Bool, true, false, ◌&&◌, true≢false}
-use borrow.Author.Tests.{ltb-true}
-use Rattle.float.proofs.Both.{both}
-use mathlib.Core.List.{List, [], ◌∷◌, ◌++◌, append_assoc, append-nil}
-use native.Mathlib.Nat.{zero-add}
-use native.Mathlib.Omega.{arith}
-use lib.Dec.{eqb, ltb}
-use lib.ListN.{length, take, drop, length-append}
-use lib.Seq.{take_at, take-length, drop-nil}
-use Rattle.std.proofs.Common.{Result, Ok, is_ok}
-use Rattle.std.specs.declared.io.Error.{Error}
-use Rattle.call_list.specs.Feed.{kept, blank, pushed_line, pushed_len}
+use Rattle.std.proofs.Common.{ℕ, ◌≤◌, ◌≡◌, Bool, true, false, List, [], ◌∷◌, ◌++◌, length, take, refl, sym, ap, ◌∙◌, append_assoc, append-nil}
+use native.Mathlib.Decide.{dec_le}
+use Rattle.std.proofs.lemmas.Bool.{eqb-true, eqb-false}
+use lib.Dec.{eqb}
+use lib.Seq.{take_at}
+use Rattle.call_list.specs.Feed.{kept}
 use Rattle.call_list.specs.Whole.{joined}
-use Rattle.call_list.proofs.KeptLines.{KeptLine, pushed_kept}
 use Rattle.call_list.proofs.Streaming.{joined_append}
-use Rattle.rewrite.specs.declared.Fed.{Fed}
-use Rattle.rewrite.specs.Rewrite.{text_for, rewritten_from, rewritten, Puts, Rewrites}
-use Rattle.rewrite.proofs.Rewriting.{texts_by_byte}
-use Rattle.rewrite.specs.Program.{Reached, started, fed, Program, ended, bytes_read, some_read, goes_on, Turned, Stops}
+use Rattle.turns.specs.Texts.{Begins}
+use Rattle.rewrite.specs.declared.Rewriting.{Rewriting}
+use Rattle.rewrite.specs.Rewrite.{text_for, rewritten_from, rewritten, Rewrites}
+use Rattle.rewrite.proofs.Telling.{line_next, byte_next, byte_lost}
+use Rattle.rewrite.specs.Program.{Reached, started, fed, Program, ended, Run}
 
 -- ---- chunk by chunk
 
 -- whatever follows is told after what was written, from the line that is left
 texts_so_far :
-    {cs : List (List ℕ)} {w line : List ℕ} {len : ℕ} → Reached cs w line len
-    → (rest : List ℕ) → rewritten (joined cs ++ rest) ≡ w ++ rewritten_from (take len line) rest
+    {cs : List (List ℕ)} {w line : List ℕ} → Reached cs w line
+    → (rest : List ℕ) → rewritten (joined cs ++ rest) ≡ w ++ rewritten_from line rest
 unfolding joined
 texts_so_far started rest = refl
-texts_so_far (fed {chunks = cs} {w = w} {line = line} {len = len} f c out x b) rest =
+texts_so_far (fed {chunks = cs} {w = w} {line = line} c text line' x b) rest =
     ap (λ (s : List ℕ). rewritten (s ++ rest)) (joined_append cs c)
     ∙ ap rewritten (append_assoc (joined cs) c rest)
     ∙ texts_so_far x (c ++ rest)
-    ∙ ap (λ (t : List ℕ). w ++ t) (b.texts rest)
-    ∙ sym (append_assoc w (take f.written out) (rewritten_from (take f.len f.line) rest))
-
-last_written : (r : ℕ) (out text out₀ : List ℕ) → Puts r out text out₀ 0 → take r out ≡ text
-last_written r out text out₀ p =
-    rw p.laid_there (take_at text (drop (0 + length text) out₀) r (sym (p.ends ∙ zero-add (length text))))
+    ∙ ap (λ (t : List ℕ). w ++ t) (b rest)
+    ∙ sym (append_assoc w text (rewritten_from line' rest))
 
 -- however the input is cut into chunks, what is written is the texts of its lines
 pub in_chunks : (chunks : List (List ℕ)) (w : List ℕ) → Program chunks w → w ≡ rewritten (joined chunks)
-in_chunks chunks _ (ended {w = w} {line = line} {len = len} r out out₀ x p) =
-    ap (λ (t : List ℕ). w ++ t) (last_written r out (rewritten_from (take len line) []) out₀ p)
-    ∙ sym (texts_so_far x [])
-    ∙ ap rewritten (append-nil (joined chunks))
+in_chunks chunks _ (ended {w = w} {line = line} text x e) =
+    ap (λ (t : List ℕ). w ++ t) e ∙ sym (texts_so_far x []) ∙ ap rewritten (append-nil (joined chunks))
 
 -- and what is written before its end is the beginning of them, whatever follows
-pub so_far :
-    {chunks : List (List ℕ)} {w line : List ℕ} {len : ℕ} → Reached chunks w line len
-    → (rest : List ℕ) → take (length w) (rewritten (joined chunks ++ rest)) ≡ w
-so_far {w = w} {line = line} {len = len} x rest =
-    ap (take (length w)) (texts_so_far x rest) ∙ take_at w (rewritten_from (take len line) rest) (length w) refl
-
-pub reached_short : {cs : List (List ℕ)} {w line : List ℕ} {len : ℕ} → Reached cs w line len → len ≤ kept
-reached_short started = omega arith
-reached_short (fed f c out x b) = b.short
+so_far : {chunks : List (List ℕ)} {w line : List ℕ} → Reached chunks w line → Begins rewritten (joined chunks) w
+so_far {w = w} {line = line} x rest =
+    ap (take (length w)) (texts_so_far x rest) ∙ take_at w (rewritten_from line rest) (length w) refl
 
 -- ---- every list of chunks has such a run
 
--- some call of `rewrite_chunk` on c
-record Some (line : List ℕ) (len : ℕ) (c : List ℕ) : Type 0 where
+-- some call of `rewrite` on c
+record Some (line c : List ℕ) : Type 0 where
   text : List ℕ
   left : List ℕ
-  size : ℕ
-  held : KeptLine left size
-  texts : (rest : List ℕ) → rewritten_from (take len line) (c ++ rest) ≡ text ++ rewritten_from (take size left) rest
+  rewrites : Rewrites line c text left
 
-some : (c line : List ℕ) (len : ℕ) → KeptLine line len → Some line len c
-some [] line len h = record { text = []; left = line; size = len; held = h; texts = λ rest. refl }
-some (b ∷ c) line len h =
-    pick (eqb b 10) refl (some c line 0 (record { short = omega arith; whole = h.whole }))
-    (some c (pushed_line line len b) (pushed_len len) (pushed_kept line len b h))
+some_on : (line line' c : List ℕ) (b : ℕ) → ((s : List ℕ) → rewritten_from line (b ∷ s) ≡ rewritten_from line' s) → Some line' c → Some line (b ∷ c)
+some_on line line' c b n y = record { text = y.text; left = y.left; rewrites = λ rest. n (c ++ rest) ∙ y.rewrites rest }
+
+some : (c line : List ℕ) → Some line c
+some [] line = record { text = []; left = line; rewrites = λ rest. refl }
+some (b ∷ c) line = pick (eqb b 10) refl (some c []) (dec_le kept (length line)) (some c line) (some c (line ++ (b ∷ [])))
   where
-    pick : (t : Bool) → eqb b 10 ≡ t → Some line 0 c → Some (pushed_line line len b) (pushed_len len) c → Some line len (b ∷ c)
-    pick true e x y =
-        let a = text_for (take len line) in
+    pick : (t : Bool) → eqb b 10 ≡ t → Some [] c → Dec (kept ≤ length line) → Some line c → Some (line ++ (b ∷ [])) c → Some line (b ∷ c)
+    pick true e y d full more =
         record {
-          text = a ++ x.text;
-          left = x.left;
-          size = x.size;
-          held = x.held;
-          texts = λ rest.
-              texts_by_byte rest line len b c h
-              ∙ rw e (ap (λ (u : List ℕ). a ++ u) (x.texts rest) ∙ sym (append_assoc a x.text (rewritten_from (take x.size x.left) rest)));
-        }
-    pick false e x y =
-        record {
-          text = y.text;
+          text = text_for line ++ y.text;
           left = y.left;
-          size = y.size;
-          held = y.held;
-          texts = λ rest. texts_by_byte rest line len b c h ∙ rw e (y.texts rest);
+          rewrites = λ rest.
+              line_next line (c ++ rest) b (eqb-true b 10 e)
+              ∙ ap (λ t. text_for line ++ t) (y.rewrites rest)
+              ∙ sym (append_assoc (text_for line) y.text (rewritten_from y.left rest));
         }
-
-some_call : (line : List ℕ) (len : ℕ) (c : List ℕ) (x : Some line len c)
-    → Rewrites (record { line = x.left; len = x.size; written = length x.text }) x.text line len c
-some_call line len c x =
-    record {
-      short = x.held.short;
-      fits = omega arith;
-      texts = λ rest. rw (take-length x.text) (x.texts rest);
-    }
+    pick false e y (yes h) full more = some_on line line c b (λ s. byte_lost line s b (eqb-false b 10 e) h) full
+    pick false e y (no h) full more = some_on line (line ++ (b ∷ [])) c b (λ s. byte_next line s b (eqb-false b 10 e)) more
 
 -- some run that was fed the chunks
 record Somewhere (chunks : List (List ℕ)) : Type 0 where
   w : List ℕ
   line : List ℕ
-  len : ℕ
-  held : KeptLine line len
-  reached : Reached chunks w line len
+  reached : Reached chunks w line
 
 one_more : (chunks : List (List ℕ)) (c : List ℕ) → Somewhere chunks → Somewhere (chunks ++ (c ∷ []))
 one_more chunks c x =
-    let y = some c x.line x.len x.held in
-    record {
-      w = x.w ++ take (length y.text) y.text;
-      line = y.left;
-      len = y.size;
-      held = y.held;
-      reached = fed _ c y.text x.reached (some_call x.line x.len c y);
-    }
+    let y = some c x.line in
+    record { w = x.w ++ y.text; line = y.left; reached = fed c y.text y.left x.reached y.rewrites }
 
 onward : (cs chunks : List (List ℕ)) → Somewhere chunks → Somewhere (chunks ++ cs)
 onward [] chunks x = rw (append-nil chunks) x
@@ -130,61 +84,24 @@ onward (c ∷ cs) chunks x = rw (append_assoc chunks (c ∷ []) cs) at (onward c
 -- whatever the chunks, the program writes them anew: the texts of the lines of the whole input
 pub every_list : (chunks : List (List ℕ)) → Program chunks (rewritten (joined chunks))
 every_list chunks =
-    let x = onward chunks [] (record { w = []; line = blank; len = 0; held = record { short = omega arith; whole = refl }; reached = started }) in
-    let text = rewritten_from (take x.len x.line) [] in
-    let p : Program chunks _ =
-    ended (length text) text [] x.reached
-    (record { laid_there = rw (drop-nil (0 + length text)) (sym (append-nil text)); ends = sym (zero-add (length text)) }) in
+    let x = onward chunks [] (record { w = []; line = []; reached = started }) in
+    let p : Program chunks _ = ended (rewritten_from x.line []) x.reached refl in
     rw (in_chunks chunks _ p) at p
 
 -- ---- the program's turns
 
-pub finish_fits : (r : ℕ) (out text out₀ : List ℕ) → Puts r out text out₀ 0 → r ≤ length out
-finish_fits r out text out₀ p =
-    let l : length out ≡ length text + length (drop (0 + length text) out₀) = ap length p.laid_there ∙ length-append text (drop (0 + length text) out₀) in
-    omega (arith, p.ends)
+pub fresh_run : (r : Rewriting) → r.line.items ≡ [] → Run [] [] r
+unfolding joined
+fresh_run r e = record { chunks = []; cut = refl; reached = rw e started }
 
--- where another follows
-pub turns_left : (got : Result ℕ Error) (wrote : Result (Unit {0}) Error) (left : ℕ) → goes_on got wrote left ≡ true → 0 < left
-unfolding goes_on
-turns_left got wrote left e = ltb-true 0 left (both (is_ok wrote) (ltb 0 left) (both (some_read got) (is_ok wrote && ltb 0 left) e).1).1
+module _ (input w : List ℕ) (r : Rewriting) (x : Run input w r) (text : List ℕ) where
+  pub fed_on :
+      (r' : Rewriting) (c : List ℕ) → Rewrites r.line.items c text r'.line.items
+      → Run (input ++ c) (w ++ text) r' × Begins rewritten (input ++ c) (w ++ text)
+  fed_on r' c b =
+      let cut : joined (x.chunks ++ (c ∷ [])) ≡ input ++ c = joined_append x.chunks c ∙ ap (λ l. l ++ c) x.cut in
+      let reached : Reached (x.chunks ++ (c ∷ [])) (w ++ text) r'.line.items = fed c text r'.line.items x.reached b in
+      (record { chunks = x.chunks ++ (c ∷ []); cut = cut; reached = reached }, λ rest. rw (sym cut) (so_far reached rest))
 
-not_end : (got : Result ℕ Error) (wrote : Result (Unit {0}) Error) (left : ℕ) → goes_on got wrote left ≡ true → got ≡ Ok 0 → ⊥
-unfolding goes_on
-not_end got wrote left e z = true≢false (rw z at (sym e))
-
--- the chunks so far, one in each turn, lead from the start to this line
-pub record Running (line : List ℕ) (len left : ℕ) : Type 0 where
-  pub chunks : List (List ℕ)
-  pub w : List ℕ
-  pub reached : Reached chunks w line len
-  pub turns : length chunks + left ≡ 2 ^ 64 - 1
-
-module _
-    (line : List ℕ) (len left : ℕ) (x : Running line len left) (got : Result ℕ Error) (f : Fed) (out chunk out₀ : List ℕ)
-    (t : Turned got f out line len chunk out₀)
-  where
-    pub next_turn : (wrote : Result (Unit {0}) Error) → goes_on got wrote left ≡ true → Running f.line f.len (left - 1)
-    next_turn wrote g =
-        let c = bytes_read got chunk in
-        let m = turns_left got wrote left g in
-        record {
-          chunks = x.chunks ++ (c ∷ []);
-          w = x.w ++ take f.written out;
-          reached = fed f c out x.reached (t.before (not_end got wrote left g));
-          turns = rw (length-append x.chunks (c ∷ [])) (omega (arith, x.turns));
-        }
-
-    pub last_turn : (wrote : Result (Unit {0}) Error) → goes_on got wrote left ≡ false → Stops (record { got = got; wrote = wrote; written = f.written }) out
-    last_turn wrote h =
-        let k : 2 ^ 64 - 1 - length x.chunks ≡ left = omega (arith, x.turns) in
-        record {
-          chunks = x.chunks;
-          w = x.w;
-          line = line;
-          len = len;
-          reached = x.reached;
-          last = rw k h;
-          beginning = so_far x.reached;
-          whole = λ z. in_chunks x.chunks _ (ended f.written out out₀ x.reached (t.at_end z));
-        }
+  pub all_rewritten : text ≡ rewritten_from r.line.items [] → w ++ text ≡ rewritten input
+  all_rewritten e = in_chunks x.chunks _ (ended text x.reached e) ∙ ap rewritten x.cut

@@ -1,4 +1,4 @@
 pub mod Texts
-pub mod Rewriting
+pub mod Telling
 pub mod Chunks
 pub mod Accepted

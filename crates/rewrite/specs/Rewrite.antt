@@ -1,8 +1,7 @@
 -- A call list written anew: the text of each line, and what the program's functions leave. Definitions only.
-use Rattle.std.specs.Prelude.{ℕ, ◌+◌, ◌≤◌, ◌≡◌, Result, Ok, Err, List, [], ◌∷◌, ◌++◌, map, length, take}
+use Rattle.std.specs.Prelude.{ℕ, ◌≡◌, Result, Ok, Err, List, [], ◌∷◌, ◌++◌, map, length}
 use Rattle.refusal.specs.Refusal.{code}
 use Rattle.refusal.specs.declared.Refusal.{Refusal}
-use Rattle.buffer.specs.Laid.{laid}
 use Rattle.call_line.specs.Column.{total}
 use Rattle.call_line.specs.Line.{wide, line_of}
 use Rattle.call_line.specs.Write.{ascii_newline, line_text}
@@ -10,10 +9,8 @@ use Rattle.call_line.specs.declared.Call.{Call}
 use Rattle.call_line.specs.declared.LineRefusal.{LineRefusal}
 use Rattle.call_line.specs.declared.LineRefusal.TheVariants.{Report, Other}
 use Rattle.call_list.specs.Answer.{in_column}
-use Rattle.call_list.specs.Feed.{kept}
 use Rattle.call_list.specs.Whole.{joined, lines_from, lines_of}
 use Rattle.call_list.specs.Made.{list_text}
-use Rattle.rewrite.specs.declared.Fed.{Fed}
 
 -- ---- the text of a line
 
@@ -78,15 +75,8 @@ OpenComesBack =
     (ls : List (List ℕ)) (calls : List Call) (l : List ℕ) (call : Call) → Say ls calls → line_of l ≡ Ok call → AllWide ls → length l ≡ total wide
     → rewritten (joined (map closed ls) ++ l) ≡ joined (map closed ls) ++ closed l
 
--- ---- what the functions leave
+-- ---- what a chunk leaves
 
--- the text stands in the buffer from w on, and ends at r
-pub record Puts (r : ℕ) (out text out₀ : List ℕ) (w : ℕ) : Type 0 where
-  pub laid_there : out ≡ laid w text out₀
-  pub ends : r ≡ w + length text
-
--- of the line so far and the chunk c: bytes are written and a line is left, so that whatever follows the chunk is told after those bytes from that line on
-pub record Rewrites (f : Fed) (out line : List ℕ) (len : ℕ) (c : List ℕ) : Type 0 where
-  pub short : f.len ≤ kept
-  pub fits : f.written ≤ length out
-  pub texts : (rest : List ℕ) → rewritten_from (take len line) (c ++ rest) ≡ take f.written out ++ rewritten_from (take f.len f.line) rest
+-- of the line so far and the chunk c: the text is to be written and line' is left, so that whatever follows the chunk is told after the text from line' on
+abbrev pub Rewrites : List ℕ → List ℕ → List ℕ → List ℕ → Type 0
+Rewrites line c text line' = (rest : List ℕ) → rewritten_from line (c ++ rest) ≡ text ++ rewritten_from line' rest

@@ -1,5 +1,6 @@
 -- The ceiling 100,000 / (ratio - 0.05) where r is at least 0.06: within one part in 2^40 of the exact one. Assumes nothing.
-use mathlib.Core.Path.{◌≡◌, refl}
+use Rattle.std.proofs.Common.{rules}
+use mathlib.Core.Path.{◌≡◌, ap}
 use mathlib.Core.Bool.{true, false}
 use mathlib.Core.List.{List}
 use Prim.Native.Nat.{ℕ, ◌+◌, ◌-◌, ◌*◌, ◌^◌, ◌≤◌, ◌<◌}
@@ -11,7 +12,7 @@ use lib.ListN.{length}
 use lib.Ieee.{Float, eq, lt, of_bits}
 use lib.Ieee.Positive.{num, den, den_pos}
 use Rattle.float.specs.Rounded.{◌⊖◌, bits}
-use Rattle.float.proofs.Each.{Each}
+use Rattle.std.specs.List.{All}
 use Rattle.bandwidth.specs.Rate as Rate
 use Rattle.config.specs.Config as Config
 use Rattle.rounding.specs.Exact.{Measured, Sound, exact_total, exact_lost, ceiling_part, UnderCeiling}
@@ -20,7 +21,7 @@ use Rattle.rounding.specs.Ratio.{loss_ratio, loss_ceiling}
 use Rattle.rounding.proofs.Parts.{within_share}
 use Rattle.rounding.proofs.Round.{Near, ranged}
 use Rattle.rounding.proofs.Operations.{eq_zero}
-use Rattle.rounding.proofs.Near.{near_more, near_terms, near_pos, near_exact, near_test, near_of_test, div_near, Cancels, sub_near, near_lt}
+use Rattle.rounding.proofs.Near.{near_more, near_terms, near_pos, near_exact, near_test, div_near, Cancels, sub_near, near_lt}
 use Rattle.rounding.proofs.Order.{Under}
 use Rattle.rounding.proofs.Ratio.{lost_part, total_bounded, ratio_near}
 
@@ -29,15 +30,15 @@ loss_offset = Config.instant_upper_bound_loss_offset
 
 offset_near : Near 1 loss_offset 1 20
 unfolding of_bits near_test
-offset_near = near_of_test 1 loss_offset 1 20 tt
+offset_near = search rules
 
 balance_near : Near 0 (Config.instant_upper_bound_bandwidth_balance).bps 100000 1
 unfolding of_bits
-balance_near = near_exact _ 100000 1 (refl, refl) (lit< tt)
+balance_near = search (rules, near_exact, lit<)
 
 -- r is 6 times r - 1/20 at most: 47 parts of it are less than 1 / 2 ^ 47, and 769 parts of the difference
 cancels : Cancels 47 6 (2 ^ 47) 769
-cancels = record { some = lit< tt; enough = lit≤ tt; shares = lit≤ tt; parts = lit≤ tt; few = lit≤ tt }
+cancels = search rules
 
 -- x is under the ceiling, and no more below it than it may be above
 pub record Capped (x : Float) (l t : ℕ) : Type 0 where
@@ -53,22 +54,21 @@ pub record SetsCeiling (x : Float) (l t : ℕ) : Type 0 where
 -- ---- any float x that is 47 parts from l / t, for l / t from 0.06 to 1 and d = 20 l - t, of which 20 l is 6 times as much at most
 module _ {x : Float} {l t : ℕ} (near : Near 47 x l t) (part : l ≤ t) (most : t ≤ 10 ^ 28) (six : 6 * t ≤ 100 * l) (d : ℕ) (e : d + t ≡ 20 * l) where
   some : 0 < d
-  some = omega (arith, near.divisor)
+  some = search rules
 
   fifth : 20 * l ≤ 6 * d
-  fifth = omega arith
+  fifth = search rules
 
   twenty : Near 47 x (20 * l) (20 * t)
-  twenty = near_terms (omega (arith, near.divisor)) (omega arith) near
+  twenty = search (rules, near_terms)
 
   twentieth : Near 47 loss_offset t (20 * t)
   twentieth = near_terms (omega (arith, near.divisor)) (omega arith) (near_more (lit≤ tt) offset_near)
 
   difference_near : Near 770 (x ⊖ loss_offset) d (20 * t)
   difference_near =
-      let a : d ≤ 10 ^ 30 = omega arith in
-      let b : 20 * t ≤ 10 ^ 30 = omega arith in
-      sub_near cancels d e fifth twenty twentieth (ranged twenty.divisor (le_trans a (lit≤ tt)) (le_trans b (lit≤ tt)))
+      let range = ranged twenty.divisor (le_trans {m = 10 ^ 30} (omega arith) (lit≤ tt)) (le_trans {m = 10 ^ 30} (omega arith) (lit≤ tt)) in
+      sub_near cancels d e fifth twenty twentieth range
 
   -- 771 of the 8191 parts that make one in 2 ^ 40
   ceiling_near : Near 771 (loss_ceiling x) (100000 * (20 * t)) (d * 1)
@@ -77,10 +77,8 @@ module _ {x : Float} {l t : ℕ} (near : Near 47 x l t) (part : l ≤ t) (most :
       let y = x ⊖ loss_offset in
       let D : 0 < num y = near_pos (lit≤ tt) some difference_near in
       let divisor : eq y (bits 0) ≡ false = rw (eq_zero y difference_near.plainly) (ne_eqb (num y) 0 (λ z. omega arith)) in
-      let a : 100000 * (20 * t) ≤ 10 ^ 36 = omega arith in
-      let b : d * 1 ≤ 10 ^ 30 = omega arith in
-      rw (divisor, loss_ceiling, Rate.over)
-      (div_near (lit≤ tt) some (ranged (omega (arith, some)) (le_trans a (lit≤ tt)) (le_trans b (lit≤ tt))) balance_near difference_near)
+      let range = ranged (omega (arith, some)) (le_trans {m = 10 ^ 36} (omega arith) (lit≤ tt)) (le_trans {m = 10 ^ 30} (omega arith) (lit≤ tt)) in
+      rw (divisor, loss_ceiling, Rate.over) (div_near (lit≤ tt) some range balance_near difference_near)
 
   sets_ceiling : SetsCeiling x l t
   sets_ceiling =
@@ -93,7 +91,7 @@ module _ {x : Float} {l t : ℕ} (near : Near 47 x l t) (part : l ≤ t) (most :
       }
 
 -- ---- the ratio of a sound window of at most fifteen observations with r at least 0.06 sets a ceiling
-pub ratio_sets_ceiling : (os : List Measured) → Each Sound os → length os ≤ 15 → 0 < exact_total os → 6 * exact_total os ≤ 100 * exact_lost os
+pub ratio_sets_ceiling : (os : List Measured) → All Sound os → length os ≤ 15 → 0 < exact_total os → 6 * exact_total os ≤ 100 * exact_lost os
     → SetsCeiling (loss_ratio os) (exact_lost os) (exact_total os)
 ratio_sets_ceiling os sound short some six =
     sets_ceiling (ratio_near os sound short some) (lost_part os sound short) (total_bounded os sound short) six (20 * exact_lost os - exact_total os)
@@ -106,11 +104,7 @@ under_ceiling {x} {y} l t m u h = go (num x) (den x) (num y) (den y) (20 * l - t
     go : (a c b d w : ℕ) → w + t ≡ 20 * l → 0 < c → b * c ≤ a * d → a * (20 * l) * ceiling_part ≤ 2000000 * t * c * (ceiling_part + 1) + a * t * ceiling_part
         → b * (20 * l) * ceiling_part ≤ 2000000 * t * d * (ceiling_part + 1) + b * t * ceiling_part
     go a c b d w e C u h =
-        let ea : a * (w + t) ≡ a * (20 * l) = rw e in
-        let eb : b * (w + t) ≡ b * (20 * l) = rw e in
-        let h' : a * w * ceiling_part ≤ 2000000 * t * c * (ceiling_part + 1) = omega arith in
-        let h'' : a * w * ceiling_part * d ≤ 2000000 * t * c * (ceiling_part + 1) * d = mul-le-mul_right d h' in
-        let u' : b * c * w ≤ a * d * w = mul-le-mul_right w u in
-        let z : b * w * ceiling_part * c ≤ 2000000 * t * d * (ceiling_part + 1) * c = omega arith in
-        let z' : b * w * ceiling_part ≤ 2000000 * t * d * (ceiling_part + 1) = le_of_mul-le-mul_right z C in
-        omega arith
+        let h' : a * w * ceiling_part ≤ 2000000 * t * c * (ceiling_part + 1) = omega (arith, ap (λ (z : ℕ). a * z) e) in
+        let z : b * w * ceiling_part ≤ 2000000 * t * d * (ceiling_part + 1) =
+        le_of_mul-le-mul_right {k = c} (omega (arith, mul-le-mul_right d h', mul-le-mul_right w u)) C in
+        omega (arith, z, ap (λ (z : ℕ). b * z) e)

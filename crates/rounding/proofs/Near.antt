@@ -1,15 +1,15 @@
 -- The laws of `Near`, for any operands. Each rounding adds a part: over a product and a quotient the parts add up,
 -- a sum has the larger number of its two, and a difference multiplies them by what it cancels. Assumes nothing.
-use mathlib.Core.Path.{◌≡◌, refl, ap}
+use Rattle.std.proofs.Common.{rules}
+use mathlib.Core.Path.{◌≡◌, ap}
 use mathlib.Core.Bool.{Bool, true, false, ◌&&◌}
 use Prim.Native.Nat.{ℕ, ◌+◌, ◌-◌, ◌*◌, ◌^◌, ◌≤◌, ◌<◌}
 use native.Mathlib.Nat.{mul-mul-mul_comm, mul-le-mul_left, mul-le-mul_right, le_of_mul-le-mul_right, mul-pos, add-zero, sub-add_cancel}
 use native.Mathlib.Omega.{arith}
 use borrow.Author.Tests.{lt-ltb}
 use lib.IntN.{pos}
-use lib.Dec.{T, ltb, leb, ltb→lt, leb→le, lit<}
-use lib.Ieee.{Float, binary64, round, lt, of_int}
-use lib.Ieee.Fits.{and_l, and_r}
+use lib.Dec.{T, ltb, leb, lit<}
+use lib.Ieee.{Float, binary64, lt, of_int}
 use lib.Ieee.Exact.{HasValue}
 use lib.Ieee.Back.{round_whole}
 use lib.Ieee.Positive.{num, den, den_pos, first_pos}
@@ -31,19 +31,14 @@ near_terms S e n = rw add-zero at (near_through {k = 0} S (within_same e) n)
 
 -- a value that is p / q
 pub near_exact : {k : ℕ} (x : Float) (p q : ℕ) → HasValue x false p q → 0 < q → Near k x p q
-near_exact x p q v Q = near_of_value x p q p q v Q Q (within_same refl)
+near_exact x p q v Q = search (rules, near_of_value, within_same)
 
 -- what is near a fraction above zero is above zero, and what is near zero is zero
 pub near_pos : {k : ℕ} {x : Float} {p q : ℕ} → k ≤ 2 ^ 52 → 0 < p → Near k x p q → 0 < num x
-near_pos {x = x} {p} {q} few P n =
-    let h : 0 < p * den x = mul-pos P (den_pos x) in
-    first_pos (num x) q (omega (arith, within_twice few (within_sym n.parts)))
+near_pos {x = x} {p} {q} few P n = first_pos (num x) q (omega (arith, mul-pos P (den_pos x), within_twice few (within_sym n.parts)))
 
 pub near_zero : {k : ℕ} {x : Float} {q : ℕ} → k ≤ 2 ^ 52 → Near k x 0 q → num x ≡ 0
-near_zero {x = x} {q} few n = go (num x) (den x) (mul-le-mul_left (num x) n.divisor) (within_twice few n.parts)
-  where
-    go : (a c : ℕ) → a * 1 ≤ a * q → a * q ≤ 2 * (0 * c) → a ≡ 0
-    go a c h l = omega arith
+near_zero {x = x} few n = omega (arith, mul-le-mul_left (num x) n.divisor, within_twice few n.parts)
 
 -- ---- as a test, for what computes
 unfoldable pub near_test : ℕ → Float → ℕ → ℕ → Bool
@@ -52,24 +47,13 @@ near_test k x p q = plain x && (ltb 0 q && (leb (num x * q * lo k) (p * den x * 
 
 pub near_of_test : (k : ℕ) (x : Float) (p q : ℕ) → T (near_test k x p q) → Near k x p q
 unfolding near_test
-near_of_test k x p q t =
-    let u = num x * q in
-    let v = p * den x in
-    let c = leb (u * lo k) (v * hi k) in
-    let d = leb (v * lo k) (u * hi k) in
-    let t' = and_r (plain x) (ltb 0 q && (c && d)) t in
-    let t'' = and_r (ltb 0 q) (c && d) t' in
-    record {
-      plainly = and_l (plain x) (ltb 0 q && (c && d)) t;
-      divisor = ltb→lt 0 q (and_l (ltb 0 q) (c && d) t');
-      parts = record { above = leb→le (u * lo k) (v * hi k) (and_l c d t''); below = leb→le (v * lo k) (u * hi k) (and_r c d t'') };
-    }
+near_of_test k x p q t = search rules
 
 -- ---- the laws: a whole number, a product, a sum, a quotient, a difference
 -- a whole number up to 2 ^ 53 is exact
 pub whole_near : {k : ℕ} (n : ℕ) → n ≤ 2 ^ 53 → Near k (of_int binary64 (pos n)) n 1
 unfolding of_int
-whole_near n h = near_exact (round binary64 false n 1) n 1 (round_whole binary64 false n h) (lit< tt)
+whole_near n h = search (rules, near_exact, round_whole, lit<)
 
 -- x ⊗ y beside p / q * r / s
 pub mul_near : {j k : ℕ} {x y : Float} {p q r s : ℕ} → j + k ≤ 2 ^ 52 → Ranged (p * r) (q * s) → Near j x p q → Near k y r s
@@ -124,9 +108,8 @@ module _ {k c n K : ℕ} {x y : Float} {p r q : ℕ} (can : Cancels k c n K) (d 
 
   difference : num x * den y - num y * den x + num y * den x ≡ num x * den y
   difference =
-      let o : num y * q * den x ≤ num x * q * den y = share_order c (d * (den x * den y)) can.some can.enough exact part left right in
-      let o' : num y * den x * q ≤ num x * den y * q = omega arith in
-      sub-add_cancel (le_of_mul-le-mul_right o' a.divisor)
+      let o = share_order c (d * (den x * den y)) can.some can.enough exact part left right in
+      sub-add_cancel (le_of_mul-le-mul_right {k = q} (omega (arith, o)) a.divisor)
 
   -- x ⊖ y beside p / q - r / q
   pub sub_near : Ranged d q → Near (1 + K) (x ⊖ y) d q
@@ -139,9 +122,5 @@ module _ {k c n K : ℕ} {x y : Float} {p r q : ℕ} (can : Cancels k c n K) (d 
   pub near_lt : 0 < d → lt y x ≡ true
   near_lt some =
       let z = num x * den y - num y * den x in
-      let w : 0 < d * (den x * den y) = mul-pos some (mul-pos (den_pos x) (den_pos y)) in
-      let Z : 0 < z = first_pos z q (positive w (within_twice can.few (within_sym (gap z difference)))) in
+      let Z : 0 < z = first_pos z q (omega (arith, mul-pos some (mul-pos (den_pos x) (den_pos y)), within_twice can.few (within_sym (gap z difference)))) in
       rw (lt_is y x b.plainly a.plainly) (lt-ltb (num y * den x) (num x * den y) (omega (arith, difference, Z)))
-    where
-      positive : {i j : ℕ} → 0 < i → i ≤ 2 * j → 0 < j
-      positive h l = omega arith

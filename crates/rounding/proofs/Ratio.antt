@@ -1,8 +1,9 @@
 -- The loss ratio of a sound window of at most fifteen observations: within r/2^46 of r, and never above 1. Assumes nothing.
-use mathlib.Core.Path.{◌≡◌, subst}
+use Rattle.std.proofs.Common.{rules}
+use mathlib.Core.Path.{◌≡◌}
 use mathlib.Core.Logic.{inl, inr}
 use mathlib.Core.List.{List}
-use Prim.Native.Nat.{ℕ, ◌*◌, ◌^◌, ◌≤◌, ◌<◌}
+use Prim.Native.Nat.{◌^◌, ◌≤◌, ◌<◌}
 use native.Mathlib.Nat.{le_trans, mul-le-mul_right, eq-zero-or-pos}
 use native.Mathlib.Omega.{arith}
 use borrow.Author.Tests.{eq-eqb, ne_eqb}
@@ -11,7 +12,7 @@ use lib.ListN.{length}
 use lib.Ieee.{of_bits}
 use lib.Ieee.Positive.{num}
 use Rattle.float.specs.Rounded.{◌⊘◌, bits}
-use Rattle.float.proofs.Each.{Each}
+use Rattle.std.specs.List.{All}
 use Rattle.rounding.specs.Exact.{Measured, Sound, exact_total, exact_lost, ratio_part, Close, AtMostOne}
 use Rattle.rounding.specs.Ratio.{float_total, float_lost, loss_ratio}
 use Rattle.rounding.proofs.Parts.{within_share}
@@ -21,9 +22,9 @@ use Rattle.rounding.proofs.Near.{near_more, near_terms, near_pos, near_zero, div
 use Rattle.rounding.proofs.Order.{div_at_most_one}
 use Rattle.rounding.proofs.Sums.{Sums, window_sums}
 
-module _ (os : List Measured) (sound : Each Sound os) (short : length os ≤ 15) where
+module _ (os : List Measured) (sound : All Sound os) (short : length os ≤ 15) where
   sums : Sums (length os) (float_lost os) (float_total os) (exact_lost os) (exact_total os)
-  sums = window_sums os sound short
+  sums = search (rules, window_sums)
 
   -- 23 parts: 8 of a term, 15 of the additions
   pub lost_near : Near 23 (float_lost os) (exact_lost os) (10 ^ 14)
@@ -33,37 +34,31 @@ module _ (os : List Measured) (sound : Each Sound os) (short : length os ≤ 15)
   total_near = near_more (omega arith) sums.total
 
   pub lost_part : exact_lost os ≤ exact_total os
-  lost_part = sums.part
+  lost_part = search (rules, sums)
 
   pub total_bounded : exact_total os ≤ 10 ^ 28
-  total_bounded = omega (arith, sums.most, mul-le-mul_right (10 ^ 26) short)
+  total_bounded = grind (arith, sums, mul-le-mul_right)
 
   -- without a total the ratio is 0.0
   pub ratio_none : exact_total os ≡ 0 → loss_ratio os ≡ bits 0
   unfolding loss_ratio
-  ratio_none none =
-      let x = float_total os in
-      let zero : num x ≡ 0 = near_zero (lit≤ tt) (subst (λ (t : ℕ). Near 23 x t (10 ^ 14)) none total_near) in
-      rw (eq_zero x total_near.plainly, eq-eqb (num x) 0 zero)
+  ratio_none none = search (rules, near_zero, lit≤, total_near, eq_zero, eq-eqb)
 
   module _ (some : 0 < exact_total os) where
     total_pos : 0 < num (float_total os)
-    total_pos = near_pos (lit≤ tt) some total_near
+    total_pos = search (rules, near_pos, lit≤, total_near)
 
     ratio_is : loss_ratio os ≡ float_lost os ⊘ float_total os
     unfolding loss_ratio
-    ratio_is = rw (eq_zero (float_total os) total_near.plainly, ne_eqb (num (float_total os)) 0 (λ z. omega (arith, total_pos)))
+    ratio_is = grind (arith, eq_zero, total_near, ne_eqb, total_pos)
 
     -- The error budget: 47 parts in 2 ^ 53, of the 128 that r / 2 ^ 46 allows (127 compounded, `within_share`). Each sum has 23, that is
     -- 7 of a weight, 1 of its product and 15 of the additions; the division adds the two sums' and 1 of its own
     pub ratio_near : Near 47 (loss_ratio os) (exact_lost os) (exact_total os)
     ratio_near =
-        let l = exact_lost os in
-        let t = exact_total os in
-        let a : l * 10 ^ 14 ≤ 10 ^ 28 * 10 ^ 14 = mul-le-mul_right (10 ^ 14) (le_trans lost_part total_bounded) in
-        let b : t * 10 ^ 14 ≤ 10 ^ 28 * 10 ^ 14 = mul-le-mul_right (10 ^ 14) total_bounded in
-        rw ratio_is
-        (near_terms some (omega arith) (div_near (lit≤ tt) some (ranged (omega arith) (le_trans a (lit≤ tt)) (le_trans b (lit≤ tt))) lost_near total_near))
+        let l = le_trans (mul-le-mul_right (10 ^ 14) (le_trans lost_part total_bounded)) (lit≤ tt) in
+        let t = le_trans (mul-le-mul_right (10 ^ 14) total_bounded) (lit≤ tt) in
+        rw ratio_is (near_terms some (omega arith) (div_near (lit≤ tt) some (ranged (omega arith) l t) lost_near total_near))
 
     -- the ratio is within r/2^46 of r, finite with its sign clear
     pub ratio_close : Close (loss_ratio os) (exact_lost os) (exact_total os)

@@ -1,16 +1,17 @@
 -- A float k parts at most from a fraction (`Near`), and one rounding of binary64: in the normal range, but for its last two binades, it moves a
 -- fraction by one part at most.
 -- Assumes nothing.
+use Rattle.std.proofs.Common.{rules}
 use mathlib.Core.Path.{◌≡◌, refl, sym, ap, ◌∙◌}
 use mathlib.Core.Logic.{inl, inr}
-use mathlib.Core.Bool.{true, false, not, true≢false}
+use mathlib.Core.Bool.{false, not}
 use Prim.Native.Nat.{ℕ, ◌+◌, ◌-◌, ◌*◌, ◌/◌, ◌%◌, ◌^◌, ◌≤◌, ◌<◌, compare, Ordering}
 use native.Mathlib.Nat.{le_trans, le_of_eq, lt_of_le_of_lt, mul_right_comm, mul-le-mul_left, mul-le-mul_right, le_of_mul-le-mul_right, mul-pos}
 use native.Mathlib.Nat.{mod-lt, div-add-mod', le-div_iff_mul-le, zero-mul, eq-zero-or-pos}
 use native.Mathlib.Omega.{arith}
 use lib.Dec.{T, is_le, compare_is_eq, leb→le, nleb→lt, eqb→eq, lit≤, lit<}
 use lib.Pow.{pow-add, pow_pos}
-use lib.Ieee.{Float, fin, binary64, size, nearest, round}
+use lib.Ieee.{Float, binary64, size, nearest, round}
 use lib.Ieee.Digits.{size_reaches}
 use lib.Ieee.Exact.{HasValue, round_exact}
 use lib.Ieee.Nearest.{closest, nearest-ge}
@@ -23,22 +24,15 @@ use Rattle.rounding.proofs.Parts.{Within, within_one, within_same, within_sym, w
 -- ---- a fraction n / u to the nearest whole number: half a unit away at most
 half : (o : Ordering) (q r u n : ℕ) → (T (is_le o) → r * 2 ≤ u) → (T (not (is_le o)) → u < r * 2) → (T (compare_is_eq o) → r * 2 ≡ u) → q * u + r ≡ n → r < u
     → (nearest q o * u * 2 ≤ n * 2 + u) × (n * 2 ≤ nearest q o * u * 2 + u)
-half Ordering.lt q r u n a b c e l = let h = a tt in omega arith
-half Ordering.eq q r u n a b c e l = let h = c tt in let p : q % 2 * u ≤ 1 * u = mul-le-mul_right u (omega arith) in omega arith
-half Ordering.gt q r u n a b c e l = let h = b tt in omega arith
+half o q r u n a b c e l = search rules
 
 closest_near : (n u : ℕ) → 0 < u → (closest n u * u * 2 ≤ n * 2 + u) × (n * 2 ≤ closest n u * u * 2 + u)
-closest_near n u U =
-    half (compare (n % u * 2) u) (n / u) (n % u) u n (leb→le (n % u * 2) u) (nleb→lt (n % u * 2) u) (eqb→eq (n % u * 2) u) (div-add-mod' n u) (mod-lt n U)
+closest_near n u U = grind (arith, half, leb→le, nleb→lt, eqb→eq, div-add-mod', mod-lt)
 
 -- ---- g units of t / c, where g and n are H of them at least: half a unit is one part in 2 * H of either
 parts : (n g t c H : ℕ) → (g * (c * t) * 2 ≤ n * 2 + c * t) × (n * 2 ≤ g * (c * t) * 2 + c * t) → H * (c * t) ≤ n → H ≤ g
     → (g * t * c * (2 * H) ≤ n * (2 * H + 1)) × (n * (2 * H) ≤ g * t * c * (2 * H + 1))
-parts n g t c H (x, y) a b =
-    let x' : g * (c * t) * 2 * H ≤ (n * 2 + c * t) * H = mul-le-mul_right H x in
-    let y' : n * 2 * H ≤ (g * (c * t) * 2 + c * t) * H = mul-le-mul_right H y in
-    let b' : H * (c * t) ≤ g * (c * t) = mul-le-mul_right (c * t) b in
-    omega arith
+parts n g t c H (x, y) a b = omega (arith, mul-le-mul_right H x, mul-le-mul_right H y, mul-le-mul_right (c * t) b)
 
 -- where the whole part of n / c has p digits at least, p of them are kept
 kept_parts : (p n c : ℕ) → 0 < p → 0 < c → p ≤ size (n / c)
@@ -63,10 +57,7 @@ pub record Near (k : ℕ) (x : Float) (p q : ℕ) : Type 0 where
   pub parts : Within k (num x * q) (p * den x)
 
 plain_of_value : (x : Float) (a c : ℕ) → HasValue x false a c → T (plain x)
-plain_of_value lib.Ieee.nan a c h = elim h [ ]
-plain_of_value (lib.Ieee.inf _) a c h = elim h [ ]
-plain_of_value (fin true m e) a c h = absurd (true≢false h.0)
-plain_of_value (fin false m e) a c h = tt
+plain_of_value x n d v = search rules
 
 -- x is g / l, and that is near p / q
 pub near_of_value : {k : ℕ} (x : Float) (g l p q : ℕ) → HasValue x false g l → 0 < l → 0 < q → Within k (g * q) (p * l) → Near k x p q
@@ -102,16 +93,10 @@ round_normal a c C most least =
     near_of_value (round binary64 false a c) g l a c (round_val binary64 a c fine) (pow_pos 1074) C w
   where
     normal : (H l b : ℕ) → H * b ≤ l → c ≤ a * b → H * c ≤ a * l
-    normal H l b h k =
-        let k' : H * c ≤ H * (a * b) = mul-le-mul_left H k in
-        let h' : a * (H * b) ≤ a * l = mul-le-mul_left a h in
-        omega arith
+    normal H l b h k = omega (arith, mul-le-mul_left H k, mul-le-mul_left a h)
 
     under : (g l b : ℕ) → a ≤ c * b → g * c ≤ 2 * (a * l) → g ≤ 2 * b * l
-    under g l b h k =
-        let h' : a * l ≤ c * b * l = mul-le-mul_right l h in
-        let z : g * c ≤ 2 * b * l * c = omega arith in
-        le_of_mul-le-mul_right z C
+    under g l b h k = le_of_mul-le-mul_right {k = c} (omega (arith, mul-le-mul_right l h)) C
 
 -- ---- a rounding of what is k parts from p / q: one part more
 -- p / q is 0, or from 2 ^ -1021 to 2 ^ 1021
@@ -121,25 +106,18 @@ pub record Ranged (p q : ℕ) : Type 0 where
 
 -- so is any fraction of two whole numbers up to 2 ^ 1021
 pub ranged : {p q : ℕ} → 0 < q → p ≤ 2 ^ 1021 → q ≤ 2 ^ 1021 → Ranged p q
-ranged {p} {q} Q h l = record { most = go q (2 ^ 1021) Q h; least = λ P. go p (2 ^ 1021) P l }
-  where
-    go : {a : ℕ} (b c : ℕ) → 0 < b → a ≤ c → a ≤ b * c
-    go b c B h = let x : 1 * c ≤ b * c = mul-le-mul_right c B in omega arith
+ranged Q h l = search rules
 
 pub round_near : {k p q : ℕ} (a c : ℕ) → k ≤ 2 ^ 52 → 0 < c → 0 < q → Ranged p q → Within k (a * q) (p * c) → Near (1 + k) (round binary64 false a c) p q
 round_near {k} {p} {q} a c few C Q range w = elim (eq-zero-or-pos p) [ inl e ↦ at_zero e | inr P ↦ at_pos P ]
   where
     reach : (a c p q b : ℕ) → 0 < q → a * q ≤ 2 * (p * c) → p ≤ q * b → a ≤ c * (2 * b)
-    reach a c p q b Q h l =
-        let l' : p * c ≤ q * b * c = mul-le-mul_right c l in
-        let z : a * q ≤ c * (2 * b) * q = omega arith in
-        le_of_mul-le-mul_right z Q
+    reach a c p q b Q h l = le_of_mul-le-mul_right {k = q} (omega (arith, mul-le-mul_right c l)) Q
 
     at_zero : p ≡ 0 → Near (1 + k) (round binary64 false a c) p q
     at_zero e =
-        let h : a * 1 ≤ a * q = mul-le-mul_left a Q in
-        let z : p * c ≡ 0 = ap (λ (n : ℕ). n * c) e ∙ zero-mul c in
-        let none : a ≡ 0 = omega (arith, within_twice few w) in
+        let z : p * c ≡ 0 = rw e (zero-mul c) in
+        let none : a ≡ 0 = omega (arith, mul-le-mul_left a Q, within_twice few w) in
         rw none (near_of_value (round binary64 false 0 c) 0 c p q (round_exact binary64 false 0 c 0 0 C (lit< tt) (lit< tt) (sym (zero-mul c))) C Q
         (within_same (zero-mul q ∙ sym z)))
 

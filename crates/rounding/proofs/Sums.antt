@@ -1,6 +1,7 @@
 -- The two float sums over a window of at most fifteen observations, in any order, beside the exact ones: each addition adds a part to the 8 of a term,
 -- and the sum of what is lost stays no more than that of the totals. Assumes nothing.
-use mathlib.Core.Path.{◌≡◌, refl, sym, ap, ◌∙◌}
+use Rattle.std.proofs.Common.{rules}
+use mathlib.Core.Path.{◌≡◌, sym, ap, ◌∙◌}
 use mathlib.Core.List.{List, [], ◌∷◌, foldl}
 use Prim.Native.Nat.{ℕ, suc, ◌+◌, ◌-◌, ◌*◌, ◌^◌, ◌≤◌, ◌<◌}
 use native.Mathlib.Nat.{le_refl, le_trans, le_of_eq, mul-le-mul, mul-le-mul_left, mul-le-mul_right, mul-one, pow-le-pow_left, pow-le-pow_right}
@@ -13,12 +14,13 @@ use lib.ListN.{length}
 use lib.Ieee.{Float, binary64, of_int, of_bits}
 use lib.Ieee.Positive.{num, den}
 use Rattle.float.specs.Rounded.{◌⊕◌, ◌⊗◌, bits}
-use Rattle.float.proofs.Each.{Each, none, more}
+use Rattle.std.specs.List.{All}
+use Rattle.std.proofs.lemmas.List.Elements.{All-head, All-tail}
 use Rattle.logarithm.specs.Power.{weight}
 use Rattle.rounding.specs.Exact.{Measured, Sound, exact_weight, exact_sum, exact_total, exact_lost}
 use Rattle.rounding.specs.Ratio.{add_weighted, float_total, float_lost}
 use Rattle.rounding.proofs.Round.{Near, ranged}
-use Rattle.rounding.proofs.Near.{near_more, near_terms, near_exact, whole_near, mul_near, add_near}
+use Rattle.rounding.proofs.Near.{near_more, near_terms, whole_near, mul_near, add_near}
 use Rattle.rounding.proofs.Order.{Under, whole_under, mul_under, add_under}
 use Rattle.rounding.proofs.Weight.{weight_near}
 
@@ -27,11 +29,11 @@ tens : (age : ℕ) → age < 15 → 10 ^ age * 10 ^ (14 - age) ≡ 10 ^ 14
 tens age h = let e : age + (14 - age) ≡ 14 = omega arith in sym (pow-add 10 age (14 - age)) ∙ ap (λ (n : ℕ). 10 ^ n) e
 
 nines : (age : ℕ) → 9 ^ age ≤ 10 ^ age
-nines age = pow-le-pow_left (lit≤ tt) age
+nines age = search (rules, pow-le-pow_left, lit≤)
 
 -- (9 / 10) ^ age * n over the divisor that all terms share
 shared : (age n : ℕ) → age < 15 → 9 ^ age * n * 10 ^ 14 ≡ exact_weight age * n * (10 ^ age * 1)
-shared age n a = let e : 9 ^ age * n * (10 ^ age * 10 ^ (14 - age)) ≡ 9 ^ age * n * 10 ^ 14 = ap (λ (z : ℕ). 9 ^ age * n * z) (tens age a) in omega arith
+shared age n a = omega (arith, ap (λ (z : ℕ). 9 ^ age * n * z) (tens age a))
 
 -- 7 parts of the weight, 1 of the product
 pub term_near : (age n : ℕ) → age < 15 → n ≤ 10 ^ 12 → Near 8 (weight age ⊗ of_int binary64 (pos n)) (exact_weight age * n) (10 ^ 14)
@@ -57,15 +59,13 @@ pub record Sums (i : ℕ) (x y : Float) (l t : ℕ) : Type 0 where
 
 start : Sums 0 (bits 0) (bits 0) 0 0
 unfolding of_bits
-start =
-    let zero : Near 8 (bits 0) 0 (10 ^ 14) = near_exact (bits 0) 0 (10 ^ 14) (refl, refl) (lit< tt) in
-    record { lost = zero; total = zero; order = record { left = tt; right = tt; below = le_refl 0 }; part = le_refl 0; most = le_refl 0 }
+start = search rules
 
 add_term : {i s e : ℕ} {x z : Float} → i < 15 → s ≤ i * 10 ^ 26 → e ≤ 10 ^ 26 → Near (i + 8) x s (10 ^ 14) → Near 8 z e (10 ^ 14)
     → Near (1 + i + 8) (x ⊕ z) (s + e) (10 ^ 14)
-add_term {i} {s} {e} h m l a b =
-    let small : s + e ≤ 10 ^ 28 = omega arith in
-    rw (← (add_assoc 1 i 8)) at (add_near (omega arith) (ranged (lit< tt) (le_trans small (lit≤ tt)) (lit≤ tt)) a (near_more (omega arith) b))
+add_term {i} h m l a b =
+    rw (← (add_assoc 1 i 8)) at
+    (add_near (omega arith) (ranged (lit< tt) (le_trans {m = 10 ^ 28} (omega arith) (lit≤ tt)) (lit≤ tt)) a (near_more (omega arith) b))
 
 sums_step : {i l t : ℕ} {x y : Float} (o : Measured) → Sound o → i < 15 → Sums i x y l t
     → Sums (1 + i) (add_weighted (λ (o : Measured). o.lost) x o) (add_weighted (λ (o : Measured). o.total) y o) (l + exact_weight o.age * o.lost)
@@ -91,15 +91,15 @@ sums_step {i} {l} {t} {x} {y} o s h a =
       most = let k = a.most in omega arith;
     }
 
-sums_fold : (os : List Measured) {i l t : ℕ} {x y : Float} → Each Sound os → i + length os ≤ 15 → Sums i x y l t
+sums_fold : (os : List Measured) {i l t : ℕ} {x y : Float} → All Sound os → i + length os ≤ 15 → Sums i x y l t
     → Sums (i + length os) (foldl (add_weighted (λ (o : Measured). o.lost)) x os) (foldl (add_weighted (λ (o : Measured). o.total)) y os)
     (l + exact_lost os) (t + exact_total os)
 unfolding exact_sum
-sums_fold [] none h a = simp add-zero a
-sums_fold (o ∷ os) {i} {l} {t} (more s ss) h a =
+sums_fold [] sound h a = simp add-zero a
+sums_fold (o ∷ os) {i} {l} {t} sound h a =
     let e : 1 + i + length os ≡ i + suc (length os) = omega arith in
-    rw (e, add_assoc l, add_assoc t) at (sums_fold os ss (omega arith) (sums_step o s (omega arith) a))
+    rw (e, add_assoc l, add_assoc t) at (sums_fold os (All-tail Sound o os sound) (omega arith) (sums_step o (All-head Sound o os sound) (omega arith) a))
 
 -- the two sums of a window
-pub window_sums : (os : List Measured) → Each Sound os → length os ≤ 15 → Sums (length os) (float_lost os) (float_total os) (exact_lost os) (exact_total os)
+pub window_sums : (os : List Measured) → All Sound os → length os ≤ 15 → Sums (length os) (float_lost os) (float_total os) (exact_lost os) (exact_total os)
 window_sums os s h = simp zero-add at (sums_fold os {i = 0} s (omega arith) start)

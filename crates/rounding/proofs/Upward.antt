@@ -1,11 +1,12 @@
 -- Floats with the sign clear: which are plain, their differences and quotients. Assumes nothing.
+use Rattle.std.proofs.Common.{rules}
 use Prim.Native.Nat.{◌-◌, ◌*◌, ◌<◌}
 use mathlib.Core.Path.{◌≡◌, sym, ◌∙◌}
 use mathlib.Core.Bool.{true, false}
 use native.Mathlib.Omega.{arith}
 use borrow.Author.Tests.{ltb-true, eqb-false}
 use lib.Dec.{T}
-use lib.Ieee.{Float, nan, inf, fin, binary64, add, sub, div, neg, eq, lt}
+use lib.Ieee.{Float, nan, inf, fin, add, sub, div, neg, eq, lt}
 use lib.Ieee.Fits.{div-fits}
 use lib.Ieee.Positive.{num, den}
 use lib.Ieee.Scale.{finite}
@@ -16,9 +17,7 @@ use Rattle.rounding.proofs.Operations.{sub_is, div_is, lt_is, eq_zero}
 
 -- a finite one is plain
 pub upward_plain : (x : Float) → T (upward x) → T (finite x) → T (plain x)
-upward_plain nan u f = elim u [ ]
-upward_plain (inf _) u f = elim f [ ]
-upward_plain (fin s m e) u f = u
+upward_plain x u f = search rules
 
 plain_sub : (x y : Float) → T (plain x) → T (plain y) → lt y x ≡ true → NotNegative (x ⊖ y)
 plain_sub x y p q l =
@@ -28,17 +27,11 @@ plain_sub x y p q l =
 -- a float less one that is not negative and below it
 pub sub_not_negative : (x y : Float) → T (plain y) → lt y x ≡ true → NotNegative (x ⊖ y)
 unfolding sub add neg
-sub_not_negative nan nan p l = elim p [ ]
-sub_not_negative nan (inf _) p l = elim p [ ]
-sub_not_negative (inf false) nan p l = elim p [ ]
-sub_not_negative (inf false) (inf _) p l = elim p [ ]
-sub_not_negative (inf true) nan p l = elim p [ ]
-sub_not_negative (inf true) (inf _) p l = elim p [ ]
+sub_not_negative nan y p l = search (rules, above_upward y nan)
+sub_not_negative (inf true) y p l = search (rules, above_upward y (inf true))
+sub_not_negative (inf false) y p l = search (rules, inf_not_negative)
 sub_not_negative (fin t n d) nan p l = elim p [ ]
 sub_not_negative (fin t n d) (inf _) p l = elim p [ ]
-sub_not_negative nan (fin s m e) p l = absurd (above_upward (fin s m e) nan p l)
-sub_not_negative (inf true) (fin s m e) p l = absurd (above_upward (fin s m e) (inf true) p l)
-sub_not_negative (inf false) (fin s m e) p l = inf_not_negative
 sub_not_negative (fin t n d) (fin s m e) p l = plain_sub (fin t n d) (fin s m e) (above_upward (fin s m e) (fin t n d) p l) p l
 
 plain_div : (x y : Float) → T (plain x) → T (plain y) → eq y (bits 0) ≡ false → NotNegative (x ⊘ y)
@@ -49,8 +42,5 @@ pub div_not_negative : (x y : Float) → T (plain x) → NotNegative y → eq y 
 unfolding div
 div_not_negative x nan p n z = absurd n.above
 div_not_negative x (inf true) p n z = absurd n.above
-div_not_negative nan (inf false) p n z = elim p [ ]
-div_not_negative (inf _) (inf false) p n z = elim p [ ]
-div_not_negative (fin true m e) (inf false) p n z = elim p [ ]
-div_not_negative (fin false m e) (inf false) p n z = record { holds = div-fits binary64 (fin false m e) (inf false); above = tt }
+div_not_negative x (inf false) p n z = search (rules, div-fits)
 div_not_negative x (fin s k d) p n z = plain_div x (fin s k d) p n.above z

@@ -43,3 +43,13 @@ Writes (Err e) held held' bytes = Keeps held held'
 abbrev pub WritesAll : {A E : Type 0} → Result A E → Option (List ℕ) → Option (List ℕ) → List ℕ → Type 0
 WritesAll (Ok r) held held' bytes = Appends held held' bytes
 WritesAll (Err e) held held' bytes = (n : ℕ) × (n < length bytes) × Appends held held' (take n bytes)
+
+-- a try: the state before, what it answers, the state after
+abbrev pub Try : Type 0 → Type 0 → Type 1
+Try F E = F → Result ℕ E → F → Type 0
+
+-- tries that fail, and then one that is answered, or none
+pub data Tried {F E : Type 0} (try : Try F E) : F → Result ℕ E → F → Type 0 where
+  again : {f g h : F} {e : E} {r : Result ℕ E} → try f (Err e) g → Tried try g r h → Tried try f r h
+  answered : {f g : F} {r : Result ℕ E} → try f r g → Tried try f r g
+  given_up : {f : F} {e : E} → Tried try f (Err e) f

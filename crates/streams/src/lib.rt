@@ -6,7 +6,7 @@ ghost use Rattle.std.specs.Prelude.{◌≡◌, ◌≢◌, ◌-◌, ◌^◌, IfEr
 ghost use Rattle.std.specs.IoError.{error_kind};
 ghost use Rattle.std.specs.declared.io.ErrorKind.{ErrorKind};
 ghost use Rattle.std.specs.Iterator.{at_most};
-ghost use Rattle.streams.specs.Streams.{Reads, Fills, ReadsLine, YieldsLine, Writes, WritesAll};
+ghost use Rattle.streams.specs.Streams.{Reads, Fills, ReadsLine, YieldsLine, Writes, WritesAll, Tried};
 
 use std::io::{self, ErrorKind, Read, Write};
 
@@ -62,7 +62,7 @@ pub fn read_line<R: Read, const N: usize>(input: &mut R) -> io::Result<Option<[u
 }
 
 // Fills the line from the input. Answers whether the input did not end before.
-fn fill<R: Read>(input: &mut R, line: &mut [u8]) -> io::Result<bool>
+pub fn fill<R: Read>(input: &mut R, line: &mut [u8]) -> io::Result<bool>
     ensures bytes { Fills result (R.remaining input.old) (R.remaining input.new) line.new }
     ensures retried { IfErr result (λ e. error_kind e ≢ ErrorKind.Interrupted) }
 {
@@ -83,14 +83,7 @@ pub fn read_chunk<R: Read>(input: &mut R, chunk: &mut [u8]) -> io::Result<usize>
     ensures bytes { Reads result (R.remaining input.old) (R.remaining input.new) chunk.new }
     ensures retried { IfErr result (λ e. error_kind e ≢ ErrorKind.Interrupted) }
 {
-    // Nothing says that the signals end, so the tries are counted.
-    for _ in 0..u64::MAX {
-        match input.read(chunk) {
-            Err(e) if e.kind() == ErrorKind::Interrupted => {}
-            read => return read,
-        }
-    }
-    Err(io::Error::from(ErrorKind::TimedOut))
+    retried(&mut || input.read(chunk))
 }
 
 // Writes all of the bytes. One that fails, or takes nothing, leaves those before it written.
@@ -98,13 +91,13 @@ pub fn write_all<W: Write>(out: &mut W, bytes: &[u8]) -> io::Result<()>
     ensures bytes { WritesAll result (W.contents out.old) (W.contents out.new) bytes.now }
     ensures retried { IfErr result (λ e. error_kind e ≢ ErrorKind.Interrupted) }
 {
-    let mut written = 0;
-    while written < bytes.len() {
-        let n = write_chunk(out, &bytes[written..])?;
+    let mut rest = bytes;
+    while !rest.is_empty() {
+        let n = write_chunk(out, rest)?;
         if n == 0 {
             return Err(io::Error::from(ErrorKind::WriteZero));
         }
-        written += n;
+        rest = &rest[n..];
     }
     Ok(())
 }
@@ -114,10 +107,20 @@ fn write_chunk<W: Write>(out: &mut W, bytes: &[u8]) -> io::Result<usize>
     ensures bytes { Writes result (W.contents out.old) (W.contents out.new) bytes.now }
     ensures retried { IfErr result (λ e. error_kind e ≢ ErrorKind.Interrupted) }
 {
+    retried(&mut || out.write(bytes))
+}
+
+// What the first try answers that no signal interrupts.
+fn retried<F: FnMut() -> io::Result<usize>>(attempt: &mut F) -> io::Result<usize>
+    requires { F.IsAlwaysCallable attempt.old }
+    ensures tries { Tried F.step attempt.old result attempt.new }
+    ensures retried { IfErr result (λ e. error_kind e ≢ ErrorKind.Interrupted) }
+{
+    // Nothing says that the signals end, so the tries are counted.
     for _ in 0..u64::MAX {
-        match out.write(bytes) {
+        match attempt() {
             Err(e) if e.kind() == ErrorKind::Interrupted => {}
-            wrote => return wrote,
+            answer => return answer,
         }
     }
     Err(io::Error::from(ErrorKind::TimedOut))

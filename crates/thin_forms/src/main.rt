@@ -15,6 +15,14 @@ use packets::{PacketResult, PacketSize};
 use refusal::Refusal;
 use std::io;
 
+// A report's packets: when they were sent, their bytes, and 1 for those that are lost
+#[derive(Clone, Copy)]
+struct Columns<'a> {
+    times: &'a [u64],
+    sizes: &'a [PacketSize],
+    flags: &'a [u8],
+}
+
 // What a call answered, and the controller that it left
 #[derive(Clone, Copy)]
 struct Outcome {
@@ -22,36 +30,107 @@ struct Outcome {
     controller: LossController,
 }
 
-fn main(rt: HostRuntime) -> io::Result<()> {
-    println!(rt; "by bytes")?;
-    forms(&rt, LossController::new())?;
-    println!(rt; "by packets")?;
-    forms(&rt, LossController::with_profile(false))
+// A controller as its reports so far left it, and where they are told
+#[derive(Clone, Copy)]
+struct Course<'a> {
+    out: &'a HostRuntime,
+    controller: LossController,
 }
 
-fn forms(out: &impl Print, new: LossController) -> io::Result<()> {
-    let set = new.set_bandwidth_estimate(Bitrate { bps: 1.0e6 });
-    let mut controller = set.unwrap_or(new);
-    controller = sent_at(out, controller, 0)?;
-    controller = sent_at(out, controller, 300_000_000)?;
-    controller = sent_at(out, controller, 600_000_000)?;
-    // 3, 17, 8, 2 and 4
-    controller = sent_at(out, controller, 4_000_000_000_000_000_001)?;
-    let large = packets(700_000_000, [(1_200, 1), (10_000_000, 0), (400, 0)]);
-    controller = reported(out, controller, large, 2.0e6)?;
-    let flagged = packets(700_000_000, [(1_200, 1), (800, 2), (400, 0)]);
-    controller = reported(out, controller, flagged, 2.0e6)?;
-    let usual = packets(700_000_000, [(1_200, 1), (800, 0), (400, 1)]);
-    controller = reported(out, controller, usual, -1.0)?;
-    controller = unequal(out, controller)?;
-    // 5, 10 and 11
-    controller = too_many(out, controller)?;
-    sent_at(out, with_sums(controller, 1_000_000_000_000), 900_000_000)?;
-    sent_at(out, with_count(controller, 1_000_000_000), 900_000_000)?;
-    controller = reported(out, controller, usual, f64::INFINITY)?;
-    controller = sent_at(out, controller, 900_000_000)?;
-    controller = sent_at(out, controller, 1_000_000_000)?;
-    print_last(out, controller)
+fn main(rt: HostRuntime) -> io::Result<()> {
+    println!(rt; "by bytes")?;
+    Course::new(&rt, LossController::new()).forms()?;
+    println!(rt; "by packets")?;
+    Course::new(&rt, LossController::with_profile(false)).forms()
+}
+
+impl<'a> Course<'a> {
+    fn new(out: &'a HostRuntime, new: LossController) -> Course<'a> {
+        let set = new.set_bandwidth_estimate(Bitrate { bps: 1.0e6 });
+        Course {
+            out,
+            controller: set.unwrap_or(new),
+        }
+    }
+
+    fn forms(&mut self) -> io::Result<()> {
+        self.sent_at(0)?;
+        self.sent_at(300_000_000)?;
+        self.sent_at(600_000_000)?;
+        // 3, 17, 8, 2 and 4
+        self.sent_at(4_000_000_000_000_000_001)?;
+        let large = [(1_200, 1), (10_000_000, 0), (400, 0)];
+        self.reported(packets(700_000_000, large), 2.0e6)?;
+        let flagged = [(1_200, 1), (800, 2), (400, 0)];
+        self.reported(packets(700_000_000, flagged), 2.0e6)?;
+        let usual = packets(700_000_000, [(1_200, 1), (800, 0), (400, 1)]);
+        self.reported(usual, -1.0)?;
+        self.unequal()?;
+        // 5, 10 and 11
+        self.too_many()?;
+        let mut full = *self;
+        full.controller.observations.partial_observation.size = 1_000_000_000_000;
+        full.sent_at(900_000_000)?;
+        let mut full = *self;
+        full.controller.observations.num_observations = 1_000_000_000;
+        full.sent_at(900_000_000)?;
+        self.reported(usual, f64::INFINITY)?;
+        self.sent_at(900_000_000)?;
+        self.sent_at(1_000_000_000)?;
+        // What the reports came to, so that forms which agree in doing nothing are told.
+        let count = self.controller.observations.num_observations;
+        let size = self.controller.observations.partial_observation.size;
+        println!(self.out; "observations {count}, running bytes {size}")
+    }
+
+    // The second packet was sent long before.
+    fn sent_at(&mut self, time: u64) -> io::Result<()> {
+        let mut packets = packets(time, [(1_200, 0), (800, 1), (9_999_999, 0)]);
+        packets[1].local_send_time = 5;
+        self.reported(packets, 2.0e6)
+    }
+
+    fn reported(&mut self, packets: [PacketResult; 3], bps: f64) -> io::Result<()> {
+        let columns = Columns {
+            times: &packets.map(|packet| packet.local_send_time),
+            sizes: &packets.map(|packet| packet.size),
+            flags: &packets.map(|packet| packet.lost),
+        };
+        let delay = Bitrate { bps };
+        let (by_value, lent) = by_columns(self.controller, columns, delay);
+        let answer = of_records(self.controller, packets, delay);
+        let records = by_value.same(Outcome::new(self.controller, answer));
+        self.controller = by_value.controller;
+        println!(self.out;
+            "refusal {}, lent {lent}, records {records}",
+            by_value.code()
+        )
+    }
+
+    // Columns of unequal length, which records do not have.
+    fn unequal(&mut self) -> io::Result<()> {
+        self.columns_alone(Columns {
+            times: &[800_000_000, 800_000_001, 800_000_002],
+            sizes: &[1_200, 800],
+            flags: &[0, 1, 0],
+        })
+    }
+
+    // One packet more than a report may have. `of_records` lends an array of three: what
+    // `update_records` does with 4,097 is its contract's.
+    fn too_many(&mut self) -> io::Result<()> {
+        self.columns_alone(Columns {
+            times: &[800_000_000; 4_097],
+            sizes: &[1_200; 4_097],
+            flags: &[0; 4_097],
+        })
+    }
+
+    fn columns_alone(&mut self, columns: Columns) -> io::Result<()> {
+        let (by_value, lent) = by_columns(self.controller, columns, Bitrate { bps: 2.0e6 });
+        self.controller = by_value.controller;
+        println!(self.out; "refusal {}, lent {lent}", by_value.code())
+    }
 }
 
 // Packets that were sent at a time, each by its size and its flag.
@@ -63,93 +142,35 @@ fn packets(local_send_time: u64, packets: [(PacketSize, u8); 3]) -> [PacketResul
     })
 }
 
-// The second packet was sent long before.
-fn sent_at(out: &impl Print, controller: LossController, time: u64) -> io::Result<LossController> {
-    let mut packets = packets(time, [(1_200, 0), (800, 1), (9_999_999, 0)]);
-    packets[1].local_send_time = 5;
-    reported(out, controller, packets, 2.0e6)
-}
-
-fn reported(
-    out: &impl Print,
-    controller: LossController,
-    packets: [PacketResult; 3],
-    bps: f64,
-) -> io::Result<LossController> {
-    let times = packets.map(|packet| packet.local_send_time);
-    let sizes = packets.map(|packet| packet.size);
-    let flags = packets.map(|packet| packet.lost);
-    let delay = Bitrate { bps };
-    let answer = controller.update_bandwidth_estimate(&times, &sizes, &flags, delay);
-    let by_value = Outcome::new(controller, answer);
-    let lent = by_loan(controller, &times, &sizes, &flags, delay);
-    let records = Outcome::new(controller, of_records(controller, packets, delay));
-    let refusal = by_value.code();
-    println!(out;
-        "refusal {refusal}, lent {}, records {}",
-        by_value.same(lent),
-        by_value.same(records)
-    )?;
-    Ok(by_value.controller)
-}
-
-// Columns of unequal length, which records do not have.
-fn unequal(out: &impl Print, controller: LossController) -> io::Result<LossController> {
-    let times = [800_000_000, 800_000_001, 800_000_002];
-    by_columns(out, controller, &times, &[1_200, 800], &[0, 1, 0])
-}
-
-// One packet more than a report may have. `of_records` lends an array of three: what `update_records`
-// does with 4,097 is its contract's.
-fn too_many(out: &impl Print, controller: LossController) -> io::Result<LossController> {
-    let times = [800_000_000; 4_097];
-    let sizes = [1_200; 4_097];
-    let flags = [0; 4_097];
-    by_columns(out, controller, &times, &sizes, &flags)
-}
-
+// The call by value, and whether the lent form does the same.
 fn by_columns(
-    out: &impl Print,
     controller: LossController,
-    times: &[u64],
-    sizes: &[PacketSize],
-    flags: &[u8],
-) -> io::Result<LossController> {
-    let delay = Bitrate { bps: 2.0e6 };
+    columns: Columns,
+    delay: Bitrate,
+) -> (Outcome, &'static str) {
+    let Columns {
+        times,
+        sizes,
+        flags,
+    } = columns;
     let answer = controller.update_bandwidth_estimate(times, sizes, flags, delay);
     let by_value = Outcome::new(controller, answer);
-    let lent = by_loan(controller, times, sizes, flags, delay);
-    let refusal = by_value.code();
-    println!(out; "refusal {refusal}, lent {}", by_value.same(lent))?;
-    Ok(by_value.controller)
-}
-
-// The controller with so many running bytes
-fn with_sums(mut controller: LossController, size: u64) -> LossController {
-    controller.observations.partial_observation.size = size;
-    controller
-}
-
-// The controller with so many observations
-fn with_count(mut controller: LossController, num_observations: u64) -> LossController {
-    controller.observations.num_observations = num_observations;
-    controller
+    (by_value, by_value.same(by_loan(controller, columns, delay)))
 }
 
 // The lent form, on a controller of its own.
-fn by_loan(
-    controller: LossController,
-    times: &[u64],
-    sizes: &[PacketSize],
-    flags: &[u8],
-    delay: Bitrate,
-) -> Outcome
+fn by_loan(controller: LossController, columns: Columns, delay: Bitrate) -> Outcome
     ensures answer { result.answer
-        ≡ and_then (update_bandwidth_estimate controller times.now sizes.now flags.now delay) (λ _. Ok tt) }
+        ≡ and_then (update_bandwidth_estimate controller columns.entry.times.now columns.entry.sizes.now columns.entry.flags.now delay) (λ _. Ok tt) }
     ensures left { result.controller
-        ≡ result_unwrap_or (update_bandwidth_estimate controller times.now sizes.now flags.now delay) controller }
+        ≡ result_unwrap_or (update_bandwidth_estimate controller columns.entry.times.now columns.entry.sizes.now columns.entry.flags.now delay) controller }
 {
     let mut own = controller;
+    let Columns {
+        times,
+        sizes,
+        flags,
+    } = columns;
     let answer = lent::update_lent(&mut own, times, sizes, flags, delay);
     Outcome {
         answer,
@@ -178,7 +199,7 @@ impl Outcome {
     }
 
     fn code(self) -> u8 {
-        self.answer.err().map_or(0, u8::from)
+        refusal::number(&self.answer)
     }
 
     fn same(self, other: Outcome) -> &'static str {
@@ -189,11 +210,4 @@ impl Outcome {
             "OTHER"
         }
     }
-}
-
-// What the reports came to, so that forms which agree in doing nothing are told.
-fn print_last(out: &impl Print, controller: LossController) -> io::Result<()> {
-    let count = controller.observations.num_observations;
-    let size = controller.observations.partial_observation.size;
-    println!(out; "observations {count}, running bytes {size}")
 }

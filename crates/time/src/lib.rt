@@ -2,7 +2,8 @@
 // Rust's operator, and AddAssign and SubAssign are those of Add and Sub. An instant is a number of ns.
 #![tactic(auto)]
 
-ghost use Rattle.std.specs.Prelude.{◌≡◌};
+ghost use Rattle.std.specs.Prelude.{◌≡◌, ◌+◌};
+ghost use Rattle.duration.specs.Nanos as Nanos;
 ghost use Rattle.time.specs.Delta as Delta;
 ghost use Rattle.time.specs.Time as Time;
 ghost use Rattle.time.specs.declared.TimeDelta.TheVariants.{Positive};
@@ -47,12 +48,12 @@ impl Timestamp {
         matches!(self, Self::Exact(_))
     }
 
-    // Add<TimeDelta>
+    // Add<TimeDelta> and Add<Duration>
     #[tactic(auto, unfolding(crate::specs::Time::plus, duration::specs::Nanos::fitted, duration::specs::Nanos::minus))]
-    pub fn add_delta(self, rhs: TimeDelta) -> Result<Timestamp, Refusal>
-        ensures { result ≡ Time.plus self rhs }
+    pub fn add<D: Into<TimeDelta>>(self, rhs: D) -> Result<Timestamp, Refusal>
+        ensures { (delta : TimeDelta) × D.converts rhs delta × result ≡ Time.plus self delta }
     {
-        match (self, rhs) {
+        match (self, rhs.into()) {
             (Self::DistantFuture, _) | (_, TimeDelta::PositiveInfinity) => Ok(Self::DistantFuture),
             (Self::DistantPast, _) | (_, TimeDelta::NegativeInfinity) => Ok(Self::DistantPast),
             (Self::Exact(i), TimeDelta::Negative(d)) => {
@@ -66,26 +67,13 @@ impl Timestamp {
         }
     }
 
-    // Sub<TimeDelta>, whose table in Rust is that of Add with rhs negated
+    // Sub<TimeDelta> and Sub<Duration>, whose table in Rust is that of Add with rhs negated
     #[tactic(auto, unfolding(crate::specs::Time::minus))]
-    pub fn sub_delta(self, rhs: TimeDelta) -> Result<Timestamp, Refusal>
-        ensures { result ≡ Time.minus self rhs }
+    pub fn sub<D: Into<TimeDelta>>(self, rhs: D) -> Result<Timestamp, Refusal>
+        ensures { (delta : TimeDelta) × D.converts rhs delta × result ≡ Time.minus self delta }
     {
-        self.add_delta(rhs.negated())
-    }
-
-    // Add<Duration>
-    pub fn add_duration(self, rhs: Duration) -> Result<Timestamp, Refusal>
-        ensures { result ≡ Time.plus self (Positive rhs) }
-    {
-        self.add_delta(TimeDelta::from(rhs))
-    }
-
-    // Sub<Duration>
-    pub fn sub_duration(self, rhs: Duration) -> Result<Timestamp, Refusal>
-        ensures { result ≡ Time.minus self (Positive rhs) }
-    {
-        self.sub_delta(TimeDelta::from(rhs))
+        let delta: TimeDelta = rhs.into();
+        self.add(delta.negated())
     }
 }
 
@@ -154,7 +142,7 @@ impl TimeDelta {
     }
 
     // Add
-    #[tactic(auto, unfolding(crate::specs::Delta::plus, duration::specs::Nanos::fitted))]
+    #[tactic(auto, unfolding(crate::specs::Delta::plus))]
     pub fn add(self, rhs: TimeDelta) -> Result<TimeDelta, Refusal>
         ensures { result ≡ Delta.plus self rhs }
     {
@@ -165,20 +153,8 @@ impl TimeDelta {
             (Self::NegativeInfinity, _) | (_, Self::NegativeInfinity) => {
                 Ok(Self::NegativeInfinity)
             }
-            (Self::Negative(this), Self::Negative(that)) => {
-                let nanos = this
-                    .nanos
-                    .checked_add(that.nanos)
-                    .ok_or(Refusal::Arithmetic)?;
-                Ok(Self::Negative(Duration { nanos }))
-            }
-            (Self::Positive(this), Self::Positive(that)) => {
-                let nanos = this
-                    .nanos
-                    .checked_add(that.nanos)
-                    .ok_or(Refusal::Arithmetic)?;
-                Ok(Self::Positive(Duration { nanos }))
-            }
+            (Self::Negative(this), Self::Negative(that)) => Ok(Self::Negative(sum(this, that)?)),
+            (Self::Positive(this), Self::Positive(that)) => Ok(Self::Positive(sum(this, that)?)),
             (Self::Positive(this), Self::Negative(that)) => {
                 Ok(difference(this.nanos, that.nanos))
             }
@@ -209,20 +185,14 @@ impl TimeDelta {
     }
 
     // Div<u32>: Rust panics where a finite one is divided by 0; here that is refused.
-    #[tactic(auto, unfolding(crate::specs::Delta::over, duration::specs::Nanos::over))]
+    #[tactic(auto, unfolding(crate::specs::Delta::over))]
     pub fn div_u32(self, rhs: u32) -> Result<TimeDelta, Refusal>
         ensures { result ≡ Delta.over self rhs }
     {
         match self {
             Self::NegativeInfinity | Self::PositiveInfinity => Ok(self),
-            Self::Negative(d) => {
-                let nanos = d.nanos.checked_div(rhs as u64).ok_or(Refusal::Arithmetic)?;
-                Ok(Self::Negative(Duration { nanos }))
-            }
-            Self::Positive(d) => {
-                let nanos = d.nanos.checked_div(rhs as u64).ok_or(Refusal::Arithmetic)?;
-                Ok(Self::Positive(Duration { nanos }))
-            }
+            Self::Negative(d) => Ok(Self::Negative(quotient(d, rhs)?)),
+            Self::Positive(d) => Ok(Self::Positive(quotient(d, rhs)?)),
         }
     }
 }
@@ -258,6 +228,23 @@ fn in_units(n: i64, unit: u64) -> Result<TimeDelta, Refusal>
         return Ok(TimeDelta::Positive(span));
     }
     Ok(TimeDelta::Negative(span))
+}
+
+#[tactic(auto, unfolding(duration::specs::Nanos::fitted))]
+fn sum(this: Duration, that: Duration) -> Result<Duration, Refusal>
+    ensures { result ≡ Nanos.fitted (this.nanos + that.nanos) }
+{
+    let sum = this.nanos.checked_add(that.nanos);
+    let nanos = sum.ok_or(Refusal::Arithmetic)?;
+    Ok(Duration { nanos })
+}
+
+#[tactic(auto, unfolding(duration::specs::Nanos::over))]
+fn quotient(d: Duration, n: u32) -> Result<Duration, Refusal>
+    ensures { result ≡ Nanos.over d.nanos n }
+{
+    let nanos = d.nanos.checked_div(n as u64).ok_or(Refusal::Arithmetic)?;
+    Ok(Duration { nanos })
 }
 
 // this - that, in ns. Two equal ones give Positive(0), which is ZERO.

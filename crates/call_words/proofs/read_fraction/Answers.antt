@@ -8,5 +8,5 @@ overflow_mul-result c =
     omega (
       arith,
       ap (λ (u : ℕ). c.in_ok-value.value * u) c.unit.ensures,
-      places_fit c.args.digits.now (omega arith) (omega arith) _ (sym c.in_ok-value.ensures),
+      places_fit c.in-Some.digits.now (omega arith) _ (sym c.in_ok-value.ensures),
     )

@@ -1,4 +1,4 @@
--- `choose` meets its contract. The loop's invariant: what is left of the places in use leads from the best so far to the best of all.
+-- `choose` meets its contract. The loop's invariant: what is left of the candidates leads from the best so far to the best of all.
 -- Assumes nothing.
 use Rattle.std.proofs.Common.{◌≡◌, drop}
 use Rattle.refusal.specs.Outcome.{try_fold}
@@ -8,5 +8,5 @@ use Rattle.candidates.proofs.choose.Given as goal
 abbrev pub invariant-loop-candidate : goal.invariant-loop-candidate
 invariant-loop-candidate l =
     let next = better l.use_byte_loss_ratio l.rows l.average_reported_loss_ratio in
-    try_fold next (record { objective_max = l.objective_max; best_candidate = l.best_candidate }) (drop l.candidate-index l.candidate-items)
-    ≡ try_fold next (start l.fn.current) l.candidate-items
+    try_fold next (record { objective_max = l.objective_max; best_candidate = l.best_candidate }) (drop l.candidate-index l.candidates)
+    ≡ try_fold next (start l.fn.current) l.candidates

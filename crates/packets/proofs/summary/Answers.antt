@@ -1,41 +1,40 @@
--- `packets::summary` meets its contract. The loop's invariant: the packets that are left, added to the totals so far, give the whole, and those totals are
--- of at most i packets. Assumes nothing.
-use Rattle.std.proofs.Common.{sym, ◌∙◌, arith, rules}
+-- `packets::summary` meets its contract. Assumes nothing.
+use Rattle.std.proofs.Common.{sym, ◌∙◌, arith, rules, length}
+use Rattle.std.proofs.Math.ListN.{length-append}
 use Rattle.packets.specs.Summary.{summary_of}
-use Rattle.packets.proofs.Totals.{not_refused, columns_turn, columns_end, none_within, within_larger, within_more, of_report}
+use Rattle.packets.proofs.Totals.{not_refused, row_given, rows_given, columns_turn, columns_end, none_within, within_larger, within_more, of_report}
 use Rattle.packets.proofs.summary.Goals as goal
 
-pub loop-i-init : goal.loop-i-init
+pub loop-time-init : goal.loop-time-init
 unfolding summary_of
-loop-i-init c =
+loop-time-init c =
     let e = sym c.check_columns.ensures ∙ c.in_ok-check_columns.was in
     (none_within 0, not_refused _ _ _ e, rw e)
 
-pub bounds-sizes-i : goal.bounds-sizes-i
-bounds-sizes-i c = omega (arith, c.loop-i.invariant.1)
-
-pub bounds-flags-i : goal.bounds-flags-i
-bounds-flags-i c = omega (arith, c.loop-i.invariant.1)
-
 pub add_packet-requires : goal.add_packet-requires
 add_packet-requires c =
-    let w = c.loop-i.invariant.0 in
-    let e = c.loop-i.invariant.1 in
-    (of_report _ (within_larger _ (omega (arith, e.few)) w), omega (arith, e.few, w.packets_within))
+    let row = row_given c.args.times.now c.args.sizes.now c.args.flags.now c.into_iter-time-iterator.result (cc) (cc) (cc) c.loop-time.yielded c.loop-time.time-iterator c.next.new.self _ c.loop-time.yielded_by c.next.ensures.steps _ c.in-Some.is in
+    let w = c.loop-time.invariant.0 in
+    let e = c.loop-time.invariant.1 in
+    (of_report _ (within_larger _ (omega (arith, e.few, row.0)) w), omega (arith, e.few, w.packets_within, row.0))
 
 pub returns-in_err-summary : goal.returns-in_err-summary
 returns-in_err-summary c =
-    let turn = columns_turn c.loop-i.invariant.1 c.loop-i.summary c.loop-i.i c.loop-i-test.true in
+    let row = row_given c.args.times.now c.args.sizes.now c.args.flags.now c.into_iter-time-iterator.result (cc) (cc) (cc) c.loop-time.yielded c.loop-time.time-iterator c.next.new.self _ c.loop-time.yielded_by c.next.ensures.steps _ c.in-Some.is in
+    let turn = columns_turn c.loop-time.invariant.1 c.loop-time.summary (length c.loop-time.yielded) row.0 in
     let added = sym c.add_packet.ensures ∙ c.in_err-summary.was in
-    rw (sym c.loop-i.invariant.2 ∙ rw added at turn) (search rules)
+    rw (sym c.loop-time.invariant.2 ∙ rw (row.1, added) at turn) (search rules)
 
-pub loop-i-preserved : goal.loop-i-preserved
-loop-i-preserved c =
-    let turn = columns_turn c.loop-i.invariant.1 c.loop-i.summary c.loop-i.i c.loop-i-test.true in
+pub loop-time-preserved : goal.loop-time-preserved
+loop-time-preserved c =
+    let row = row_given c.args.times.now c.args.sizes.now c.args.flags.now c.into_iter-time-iterator.result (cc) (cc) (cc) c.loop-time.yielded c.loop-time.time-iterator c.next.new.self _ c.loop-time.yielded_by c.next.ensures.steps _ c.in-Some.is in
+    let turn = columns_turn c.loop-time.invariant.1 c.loop-time.summary (length c.loop-time.yielded) row.0 in
     let added = sym c.add_packet.ensures ∙ c.in_ok-summary.was in
-    (within_more _ _ _ _ added c.loop-i.invariant.0, c.loop-i.invariant.1, sym (rw added at turn) ∙ c.loop-i.invariant.2)
+    rw length-append (within_more _ _ _ _ added c.loop-time.invariant.0, c.loop-time.invariant.1, sym (rw (row.1, added) at turn) ∙ c.loop-time.invariant.2)
 
 pub returns : goal.returns
 returns c =
-    let end = columns_end c.loop-i.invariant.1 c.loop-i.summary c.loop-i.i c.loop-i-test.false in
-    sym end ∙ c.loop-i.invariant.2
+    let e = c.loop-time.invariant.1 in
+    let all =
+    rows_given c.args.times.now c.args.sizes.now c.args.flags.now c.into_iter-time-iterator.result (cc) (cc) (cc) c.loop-time.yielded c.loop-time.time-iterator c.next.new.self _ c.loop-time.yielded_by c.next.ensures.steps e c.in-None.is in
+    sym (columns_end e c.loop-time.summary (length c.loop-time.yielded) all) ∙ c.loop-time.invariant.2

@@ -1,11 +1,13 @@
--- A sum that is refused ends the loop.
-use Rattle.std.proofs.Common.{◌≡◌, Err, pos, get_or, rules}
-use Rattle.refusal.proofs.Outcome.{fold_turn}
-use Rattle.bandwidth.specs.Size.{size, plus}
+-- The fold of std is that of `specs/`.
+use Rattle.std.proofs.Common.{pos, rules}
+use Rattle.std.proofs.lemmas.Iterator.{YieldsList-from_slice}
+use Rattle.refusal.proofs.TryFold.{try_folds}
+use Rattle.bandwidth.specs.Size.{size, plus, total}
 use Rattle.bandwidth.proofs.DataSize.sum.Goals as goal
 
-pub returns-in_err-sum : goal.returns-in_err-sum
-returns-in_err-sum c =
-    let refused : plus c.loop-bytes.sum (size (get_or c.args.sizes.now c.loop-bytes.bytes-index (pos 0))) ≡ Err c.in_err-sum.field-0.0 = search rules in
-    let turn = fold_turn (λ sum z. plus sum (size z)) c.loop-bytes.sum c.args.sizes.now c.loop-bytes.bytes-index (pos 0) c.loop-bytes-test.true in
-    rw (← c.loop-bytes.invariant, turn, refused) (search rules)
+pub returns : goal.returns
+unfolding total
+returns c =
+    let sizes = c.args.sizes.now in
+    try_folds _ (λ y. y.now) _ (λ sum z. plus sum (size z)) (λ f b x r h k. search rules) (size (pos 0)) sizes _ c.try_fold.ensures.ran
+    (YieldsList-from_slice sizes c.iter.ensures.rest)
