@@ -1,7 +1,8 @@
 #!/usr/bin/env python3
 """places.py FOLDER [POINT..]: the places of points 1 to 8 of docs/DESIGN-PASS.md in FOLDER/crates/*/src (8: in proofs/), each as
 file:line, and totals; FOLDER is a checkout. What a pattern cannot tell (twins) stands in TWINS below, by the functions' names: a
-group of twins counts while two of its functions stand."""
+group of twins counts while two of its functions stand. A place that the page's table of what is kept has, under its point, is
+marked 'kept', any other 'TO DO'; one that the table has and nothing finds is told at the end. Ends with 1 where there is either."""
 import sys, os, re, glob, collections, itertools
 
 if len(sys.argv) < 2 or sys.argv[1] in ("-h", "--help"):
@@ -70,8 +71,39 @@ FNS = [f for _, _, fs, _ in ALL for f in fs]
 TYPES = [t for _, _, _, ts in ALL for t in ts]
 TOTAL = {}
 
+# what the page keeps: | points | `crate::function`, .. | reason |
+KEPT = {}
+page = f"{top}/docs/DESIGN-PASS.md"
+if os.path.exists(page):
+    text = open(page, encoding="utf-8").read()
+    for row in re.findall(r"^\|(.*)\|$", text.partition("## Kept, with the reason")[2].partition("\n## ")[0], re.M):
+        cells = [c.strip() for c in row.split(" | ")]
+        if len(cells) != 3 or not re.match(r"^[1-7]", cells[0]): continue
+        for p in cells[0].split(", "):
+            for key in re.findall(r"`([^`]+)`", cells[1]): KEPT[(p[0], key)] = [False, cells[2]]
+UNKEPT = {}
+
+def keys(point, file, line, text):
+    """what the page may call a place"""
+    crate = file.split("/")[0]
+    if point == "2": return re.findall(r"(\w+::\w+) \S+:\d+", text)
+    m = re.match(r"\d+ functions (?:take|require|ensure) ([({].*[)}]):", text)
+    if m: return [f"{crate} {m.group(1)}"]
+    m = re.match(r"(?:fn|struct|enum) ([\w:]*\w)", text)
+    name = m.group(1).split("::")[-1] if m else next((f.name for f in reversed([f for f in FNS if f.file == file]) if f.line <= line), "")
+    return [f"{crate}::{name}"]
+
 def show(point, title, rows):
     rows = list(rows)
+    marked = []
+    for file, line, text in rows:
+        ks = [(point[0], k) for k in keys(point, file, line, text)]
+        is_kept = bool(ks) and all(k in KEPT for k in ks)
+        for k in ks:
+            if k in KEPT: KEPT[k][0] = True
+        if not is_kept: UNKEPT[point] = UNKEPT.get(point, 0) + 1
+        marked.append((file, line, text + ("" if not KEPT else "  [kept]" if is_kept else "  [TO DO]")))
+    rows = marked
     print(f"\n== {point} {title}: {len(rows)}")
     by = collections.Counter(r[0].split("/")[0] for r in rows)
     if rows: print("   by crate: " + ", ".join(f"{c} {n}" for c, n in sorted(by.items())))
@@ -186,6 +218,31 @@ TWINS = [
  ("print_odd_time, print_odd_size, print_odd_flag: column", [("refusals", "print_odd_time"), ("refusals", "print_odd_size"), ("refusals", "print_odd_flag")]),
  ("start, controller; rate, alr, report, report_to, summary, totals_to, pair: print, make, judge", [("refusals", n) for n in ("rate", "alr", "report", "report_to", "summary", "totals_to", "pair")]),
  ("sent_at, sized, flagged, delayed: which packet is odd", [("thin_forms", n) for n in ("sent_at", "sized", "flagged", "delayed")]),
+ ("Bitrate::min and max: side", [("bandwidth", "min"), ("bandwidth", "max")]),
+ ("in_units of rates, sizes and times: the type", [("bandwidth", "in_units"), ("time", "in_units")]),
+ ("add, sub of sizes, times and differences: the operation", [("bandwidth", "add"), ("bandwidth", "sub"), ("time", "add"), ("time", "sub")]),
+ ("mul_i64, mul_u64: the operand's type", [("bandwidth", "mul_i64"), ("bandwidth", "mul_u64")]),
+ ("a packet's checks: of a line, of a report", [("call_line", "packet"), ("packets", "check")]),
+ ("add, add_packet: whether it asks first", [("packets", "add"), ("packets", "add_packet")]),
+ ("summary, update_records: columns or records", [("packets", "summary"), ("lent", "update_records")]),
+ ("row, byte_row: measure", [("observation", "row"), ("observation", "byte_row")]),
+ ("EMPTY_ROW: crate", [("observation", "EMPTY_ROW"), ("replay_steps", "EMPTY_ROW")]),
+ ("a rate of bits, its bits: crate", [("call_line", "check_bits"), ("call_list", "rate"), ("stored_fields", "rate")]),
+ ("number of an outcome: crate", [("call_list", "number"), ("thin_forms", "code")]),
+ ("read_chunk, write_chunk: what is tried", [("streams", "read_chunk"), ("streams", "write_chunk")]),
+ ("fill, write_all: read or write", [("streams", "fill"), ("streams", "write_all")]),
+ ("main of answer, rewrite and make_list: the messages", [("answer", "main"), ("rewrite", "main"), ("make_list", "main")]),
+ ("a line kept byte by byte: what its end does", [("rewrite", "rewrite"), ("make_list", "feed"), ("make_list", "take"), ("rewrite", "rewrite_chunk")]),
+ ("a call's line in 51 bytes: where it goes", [("rewrite", "call_text"), ("rewrite", "put_call"), ("make_list", "write_call")]),
+ ("call, call_shown: what it keeps beside", [("call_list", "call"), ("call_list", "call_shown")]),
+ ("Call of the replays: the line's widths", [("replay", "Call"), ("replay_calls", "Call")]),
+ ("Answer of the replays: crate", [("replay", "Answer"), ("replay_logarithm", "Answer")]),
+ ("a float printed by its bits: crate", [("refusals", "Bits"), ("replay_steps", "Fields")]),
+ ("case and ns of a time, of a difference: type", [("stored_fields", "timestamp"), ("replay", "delta")]),
+ ("the queue and its report: columns or records", [("replay_calls", "Machine"), ("call_list", "Machine")]),
+ ("packets in three columns, for a test: crate", [("refusals", "Report"), ("thin_forms", "Columns")]),
+ ("reported of replay_steps and of the controller", [("replay_steps", "reported"), ("loss_controller", "reported")]),
+ ("read_..: the value's type", [("replay_steps", n) for n in ("read_rate", "read_option", "read_timestamp", "read_parameters", "read_observation", "read_partial", "read_hold", "read_recovery", "read_settings", "read_estimator", "read_observations")]),
  ("with_sums, with_count; without_estimate, ..: which field is new", [("thin_forms", "with_sums"), ("thin_forms", "with_count"), ("refusals", "without_estimate"), ("refusals", "without_reference"), ("refusals", "without_options")]),
 ]
 if 2 in points:
@@ -321,8 +378,13 @@ if 8 in points:
         print(f"   {cr}: {c['A']} ({c['Al']}), {c['I']} ({c['Il']}), {c['P']}, {c['L']} ({c['Ll']}), ({c['Sl']}), {n}")
     print(f"   all: {tot['A']} ({tot['Al']}), {tot['I']} ({tot['Il']}), {tot['P']}, {tot['L']} ({tot['Ll']}), ({tot['Sl']}), {tot['F']}")
     TOTAL["8 Answers.antt"] = (tot["A"], {}); TOTAL["8 Invariants.antt"] = (tot["I"], {}); TOTAL["8 lemma files"] = (tot["L"], {})
-print("\n== totals")
-for k, (n, _) in TOTAL.items(): print(f"   {k}: {n}")
+print("\n== totals" + (": found, kept with a reason, to do" if KEPT else ""))
+for k, (n, _) in TOTAL.items():
+    to_do = UNKEPT.get(k.split()[0], 0)
+    print(f"   {k}: {n}" + (f", {n - to_do}, {to_do}" if KEPT and k[0] != "8" else ""))
+stale = [f"{p} {key}" for (p, key), (seen, _) in KEPT.items() if not seen and int(p) in points]
+for s in stale: print(f"   the page keeps what nothing finds: {s}")
 print(f"   functions: {len(FNS)}; lines of src: {sum(len(ls) - 1 for _, ls, _, _ in ALL)}")
 long = [(f.file, f.line, f.name, len(f.body)) for f in FNS if len(f.body) >= 38]
 print(f"   functions of 38 lines of body or more: {len(long)}: " + ", ".join(f"{n} {a}:{b} ({k})" for a, b, n, k in long))
+sys.exit(1 if KEPT and (stale or any(UNKEPT.values())) else 0)
