@@ -71,11 +71,13 @@ def write(path, text):
 
 
 def fresh_copy():
-    """history and the crates below it, which its line in crates.txt names, without what rt keeps in their out/."""
+    """history and the crates below it that its line in crates.txt names, without what rt keeps in their out/."""
     shutil.rmtree(copy, ignore_errors=True)
     os.makedirs(copy)
     lines = [line for line in read(root + "/crates.txt").splitlines() if not line.startswith("#")]
-    below = next(line.split(":")[1].split() for line in lines if line.split(":")[0] == "history")
+    named = next(line.split(":")[1].split() for line in lines if line.split(":")[0] == "history")
+    # the kit's own, as arrayvec, have no folder here
+    below = [name for name in named if os.path.isdir(f"{root}/crates/{name}")]
     write(copy + "/crates.txt", "".join(line + "\n" for line in lines if line.split(":")[0] in [*below, "history"]))
     for name in [*below, "history"]:
         shutil.copytree(f"{root}/crates/{name}", f"{copy}/crates/{name}", ignore=shutil.ignore_patterns("out", "must-fail"))
