@@ -7,6 +7,10 @@ use Rattle.refusal.specs.Outcome.{and_then}
 pub accepted : {A E : Type 0} (b : Bool) (r : Result A E) (e : E) {y : A} → cond b r (Err e) ≡ Ok y → (b ≡ true) × (r ≡ Ok y)
 accepted b r e h = search rules
 
+-- where its first choice is an answer, a refusal failed the test
+pub declined : {A E : Type 0} (b : Bool) (x : A) (r : Result A E) (e : E) → cond b (Ok x) r ≡ Err e → (b ≡ false) × (r ≡ Err e)
+declined b x r e h = search rules
+
 -- two choices by tests that agree: what relates the first two and the second two relates the chosen ones, and either may need how the test came out
 pub agreed : {A B : Type 0} (P : A → B → Type 0) (a b : Bool) → a ≡ b → {x y : A} {u v : B}
     → (a ≡ true → P x u) → (a ≡ false → P y v) → P (cond a x y) (cond b u v)
