@@ -1,5 +1,6 @@
 -- How the program's turns end, each one read and one write. Definitions only.
 use Rattle.std.specs.Prelude.{ℕ, ◌≡◌, Result, List}
+use Rattle.call_list.specs.Feed.{state_of}
 use Rattle.call_list.specs.Whole.{joined, answers, Reached}
 use Rattle.turns.specs.declared.Stop.{Stop}
 use Rattle.turns.specs.Turns.{Held, Stops}
@@ -10,7 +11,7 @@ use Rattle.answer.specs.declared.Answering.{Answering}
 pub record Run (input w : List ℕ) (a : Answering) : Type 0 where
   pub chunks : List (List ℕ)
   pub cut : joined chunks ≡ input
-  pub reached : Reached chunks w a.state
+  pub reached : Reached chunks w (state_of a.state)
 
 -- the answers to all of the input were written, or a beginning of them, up to where the run stopped
 abbrev pub Answers : Result (Unit {0}) Stop → Held → Held → Held → Held → Type 0

@@ -9,13 +9,14 @@ ghost use Rattle.call_list.specs.Whole.{answers};
 ghost use Rattle.answer.specs.Turn.{Run, Answers};
 
 use call_list::{ROW, State};
-use std::io::{self, Read, Write};
+use std::io::{self, ErrorKind, Read, Write};
 use turns::{CHUNK, Program, Stop};
 
 // Room for the answers to as many lines as a chunk has bytes
 const ROOM: usize = CHUNK * ROW;
 
-// What is kept from chunk to chunk, and the buffer that a chunk's answers are laid into.
+// What is kept from chunk to chunk, and the buffer that a chunk's answers are laid into. In a run no
+// line counts more bytes than are kept and the buffer has the room, so that each call is taken.
 #[derive(Drop)]
 struct Answering {
     state: State,
@@ -32,13 +33,16 @@ impl Program for Answering {
     ghost parted = { Parted answers Run };
 
     fn feed<W: Write>(&mut self, chunk: &[u8], out: &mut W) -> io::Result<()> {
-        let written = self.state.feed(chunk, &mut self.room).unwrap();
+        if chunk.len() > CHUNK {
+            return Err(io::Error::from(ErrorKind::InvalidInput));
+        }
+        let written = self.state.feed(chunk, &mut self.room).unwrap_or(0);
         let answers = &self.room[..written];
         streams::write_all(out, answers)
     }
 
     fn finish<W: Write>(&mut self, out: &mut W) -> io::Result<()> {
-        let written = self.state.finish(&mut self.room).unwrap();
+        let written = self.state.finish(&mut self.room).unwrap_or(0);
         let answers = &self.room[..written];
         streams::write_all(out, answers)
     }

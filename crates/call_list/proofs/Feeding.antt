@@ -1,8 +1,8 @@
 -- Turns of `feed_all`, and what `feed` and `finish` leave. Assumes nothing.
-use Rattle.std.proofs.Common.{◌≡◌, ℕ, ◌+◌, ◌/◌, ◌≤◌, ◌<◌, Bool, true, false, cond, List, [], ◌∷◌, ◌++◌, Some, None, Result, length, take, drop, refl, sym, ap, ◌∙◌, arith, length-drop}
+use Rattle.std.proofs.Common.{◌≡◌, ℕ, ◌+◌, ◌/◌, ◌≤◌, ◌<◌, Bool, true, false, cond, ◌&&◌, List, [], ◌∷◌, ◌++◌, Some, None, Result, length, take, drop, refl, sym, ap, ◌∙◌, arith, length-drop}
 use mathlib.Core.List.{append_assoc, append-nil}
 use lib.ListN.{take-append-drop}
-use lib.Dec.{eqb}
+use lib.Dec.{eqb, leb}
 use lib.Seq.{drop-drop, length-take-le}
 use borrow.Author.Tests.{le-leb, lt-leb, eq-eqb, ne_eqb}
 use Rattle.refusal.specs.declared.Refusal.{Refusal}
@@ -10,11 +10,9 @@ use Rattle.buffer.specs.Laid.{laid}
 use Rattle.buffer.proofs.Laying.{take_laid, drop_laid, length_laid}
 use Rattle.call_line.specs.Line.{line_of}
 use Rattle.call_line.specs.declared.Call.{Call}
-use Rattle.call_list.specs.declared.Machine.{Machine}
 use Rattle.call_list.specs.declared.Reading.{Reading}
-use Rattle.call_list.specs.declared.State.{State}
-use Rattle.call_list.specs.Answer.{answered, call_after, after_of, reading_of, row_of}
-use Rattle.call_list.specs.Feed.{Run, kept, row_width, pushed, ended, step, runs, finished, start_of, left, left_by, fed, closed}
+use Rattle.call_list.specs.Answer.{Machine, answered, call_after, after_of, reading_of, row_of}
+use Rattle.call_list.specs.Feed.{Between, Run, kept, row_width, pushed, ended, step, runs, finished, start_of, left, left_by, fed, closed}
 use Rattle.call_list.specs.Pieces.{line_end, kept_on, whole_call}
 use Rattle.call_list.specs.Feeds.{here, Told, At}
 use Rattle.call_list.proofs.KeptLines.{ends}
@@ -41,20 +39,20 @@ unfolding runs
 runs_onto [] r o = refl
 runs_onto (b ∷ s) r o = ap (λ (q : Run). runs q s) (step_onto r o b) ∙ runs_onto s (step r b) o
 
-runs_here : (p : State) (o s : List ℕ) → runs (here p o) s ≡ onto o (runs (start_of p) s)
+runs_here : (p : Between) (o s : List ℕ) → runs (here p o) s ≡ onto o (runs (start_of p) s)
 runs_here p o s = rw append-nil at (runs_onto s (start_of p) o)
 
 -- ---- the next line
 
 -- one that stands whole and is taken
 pub whole_told :
-    (p : State) (s : List ℕ) (call : Call) (n : ℕ) (outcome : Result (Unit {0}) Refusal) (m : Machine) (shown : Reading)
-    → length p.line.items ≡ 0 → whole_call s ≡ Some (call, n) → answered outcome m ≡ call_after p.machine call → shown ≡ reading_of m.controller
-    → Told outcome n (record { line = p.line; machine = m }) shown p s
+    (p : Between) (s : List ℕ) (call : Call) (n : ℕ) (outcome : Result (Unit {0}) Refusal) (m : Machine) (shown : Reading)
+    → length p.line ≡ 0 → whole_call s ≡ Some (call, n) → answered outcome m ≡ call_after p.machine call → shown ≡ reading_of m.controller
+    → Told outcome n (record { line = p.line; counted = p.counted; machine = m }) shown p s
 unfolding after_of
 whole_told p s call n outcome m shown z e a r =
     let t = taken s call n e in
-    let k : p.line.items ≡ [] = none p.line.items z in
+    let k : p.line ≡ [] = none p.line z in
     record { some = t.some; within = t.within; reading = r; same = t.tells (start_of p) k ∙ rw (← a, r, k) }
   where
     none : (l : List ℕ) → length l ≡ 0 → l ≡ []
@@ -63,9 +61,9 @@ whole_told p s call n outcome m shown z e a r =
 
 -- one that is read on from what is kept of it
 pub line_told :
-    (p : State) (s line : List ℕ) (n : ℕ) (outcome : Result (Unit {0}) Refusal) (q : State) (shown : Reading)
-    → length p.line.items ≤ kept → line_end s ≡ Some n → line ≡ kept_on p.line.items s → answered outcome q.machine ≡ after_of p.machine (line_of line)
-    → q.line.items ≡ [] → shown ≡ reading_of q.machine.controller → Told outcome n q shown p s
+    (p : Between) (s line : List ℕ) (n : ℕ) (outcome : Result (Unit {0}) Refusal) (q : Between) (shown : Reading)
+    → length p.line ≤ kept → line_end s ≡ Some n → line ≡ kept_on p.line s → answered outcome q.machine ≡ after_of p.machine (line_of line)
+    → q.line ≡ [] → shown ≡ reading_of q.machine.controller → Told outcome n q shown p s
 line_told p s line n outcome q shown h e l a z r =
     let x = ends s n e in
     record {
@@ -77,14 +75,14 @@ line_told p s line n outcome q shown h e l a z r =
 
 -- and none
 pub none_told :
-    (p : State) (s line : List ℕ) → length p.line.items ≤ kept → line_end s ≡ None → line ≡ kept_on p.line.items s
-    → runs (start_of p) s ≡ start_of (record { line = record { items = line }; machine = p.machine })
+    (p : Between) (s line : List ℕ) → length p.line ≤ kept → line_end s ≡ None → line ≡ kept_on p.line s
+    → runs (start_of p) s ≡ record (start_of p) { line = line }
 none_told p s line h e l = no_line (start_of p) s h e ∙ rw l
 
 -- ---- the loop
 
-module _ (out₀ : List ℕ) (end : Run) (out : List ℕ) (p : State) (shown : Reading) (w : ℕ) (s : List ℕ) (h : At out₀ end out p shown w s) where
-  module _ (outcome : Result (Unit {0}) Refusal) (n : ℕ) (p' : State) (shown' : Reading) (t : Told outcome n p' shown' p s) where
+module _ (out₀ : List ℕ) (end : Run) (out : List ℕ) (p : Between) (shown : Reading) (w : ℕ) (s : List ℕ) (h : At out₀ end out p shown w s) where
+  module _ (outcome : Result (Unit {0}) Refusal) (n : ℕ) (p' : Between) (shown' : Reading) (t : Told outcome n p' shown' p s) where
     pub row_fits : w + row_width ≤ length out
     row_fits = omega (arith, h.room, t.some, t.within)
 
@@ -112,38 +110,56 @@ module _ (out₀ : List ℕ) (end : Run) (out : List ℕ) (p : State) (shown : R
         }
 
   -- the chunk is at its end
-  pub all_told : (p' : State) → runs (start_of p) s ≡ start_of p' → left (Some w) p' out ≡ left_by end out₀
-  all_told p' t =
+  pub all_told : (p' : Between) → length p'.line ≡ p'.counted → runs (start_of p) s ≡ start_of p' → left (Some w) p' out ≡ left_by end out₀
+  all_told p' n t =
       let k : length (take w out) ≡ w = length-take-le w out (omega (arith, h.room)) in
-      rw (h.same ∙ runs_here p (take w out) s ∙ ap (onto (take w out)) t) (rw (append-nil, k, ← h.unwritten, take-append-drop) refl)
+      rw (h.same ∙ runs_here p (take w out) s ∙ ap (onto (take w out)) t) (rw (append-nil, k, n, ← h.unwritten, take-append-drop) refl)
 
 -- ---- the calls
 
-pub room_no : (p : State) (s out : List ℕ) → length out / row_width < length s → left None p out ≡ fed p s out
+pub line_no : (p : Between) (s out : List ℕ) → kept < p.counted → left None p out ≡ fed p s out
 unfolding fed
-room_no p s out l = rw (lt-leb _ _ l)
+line_no p s out l = rw (lt-leb _ _ l)
 
-pub room_yes : (p : State) (s out : List ℕ) → length s ≤ length out / row_width → fed p s out ≡ left_by (runs (start_of p) s) out
+pub room_no : (p : Between) (s out : List ℕ) → length out / row_width < length s → left None p out ≡ fed p s out
 unfolding fed
-room_yes p s out l = rw (le-leb _ _ l)
+room_no p s out l = pick (leb p.counted kept)
+  where
+    pick : (t : Bool) → left None p out ≡ cond (t && leb (length s) (length out / row_width)) (left_by (runs (start_of p) s) out) (left None p out)
+    pick true = rw (lt-leb _ _ l)
+    pick false = refl
 
-pub no_close : (p : State) (out : List ℕ) → length out < row_width → left None p out ≡ closed p out
-unfolding closed
-no_close p out l = let k : length out / row_width < 1 = omega arith in rw (lt-leb _ _ k)
+pub room_yes : (p : Between) (s out : List ℕ) → p.counted ≤ kept → length s ≤ length out / row_width → fed p s out ≡ left_by (runs (start_of p) s) out
+unfolding fed
+room_yes p s out k l = rw (le-leb _ _ k, le-leb _ _ l)
 
-pub close : (p : State) (out : List ℕ) → row_width ≤ length out → closed p out ≡ left_by (finished (start_of p)) out
+pub no_line_closed : (p : Between) (out : List ℕ) → kept < p.counted → left None p out ≡ closed p out
 unfolding closed
-close p out l = let k : 1 ≤ length out / row_width = omega arith in rw (le-leb _ _ k)
+no_line_closed p out l = rw (lt-leb _ _ l)
+
+pub no_close : (p : Between) (out : List ℕ) → length out < row_width → left None p out ≡ closed p out
+unfolding closed
+no_close p out l = pick (leb p.counted kept)
+  where
+    pick : (t : Bool) → left None p out ≡ cond (t && leb 1 (length out / row_width)) (left_by (finished (start_of p)) out) (left None p out)
+    pick true = let k : length out / row_width < 1 = omega arith in rw (lt-leb _ _ k)
+    pick false = refl
+
+pub close : (p : Between) (out : List ℕ) → p.counted ≤ kept → row_width ≤ length out → closed p out ≡ left_by (finished (start_of p)) out
+unfolding closed
+close p out n l = let k : 1 ≤ length out / row_width = omega arith in rw (le-leb _ _ n, le-leb _ _ k)
 
 -- an empty line so far is none
-pub none_closed : (p : State) (out : List ℕ) → row_width ≤ length out → length p.line.items ≡ 0 → left (Some 0) p out ≡ closed p out
-none_closed p out l z = sym (close p out l ∙ simp (eq-eqb _ _ z) refl)
+pub none_closed :
+    (p : Between) (out : List ℕ) → p.counted ≤ kept → row_width ≤ length out → length p.line ≡ p.counted → length p.line ≡ 0
+    → left (Some 0) p out ≡ closed p out
+none_closed p out n l k z = sym (close p out n l ∙ simp (eq-eqb _ _ z) (rw k refl))
 
 pub line_closed :
-    (p : State) (out : List ℕ) (outcome : Result (Unit {0}) Refusal) (q : State) (shown : Reading) (y : List ℕ)
-    → row_width ≤ length out → (length p.line.items ≡ 0 → ⊥) → answered outcome q.machine ≡ after_of p.machine (line_of p.line.items)
-    → q.line.items ≡ [] → shown ≡ reading_of q.machine.controller → y ≡ row_of outcome shown
+    (p : Between) (out : List ℕ) (outcome : Result (Unit {0}) Refusal) (q : Between) (shown : Reading) (y : List ℕ)
+    → p.counted ≤ kept → row_width ≤ length out → (length p.line ≡ 0 → ⊥) → answered outcome q.machine ≡ after_of p.machine (line_of p.line)
+    → q.line ≡ [] → q.counted ≡ 0 → shown ≡ reading_of q.machine.controller → y ≡ row_of outcome shown
     → left (Some row_width) q (y ++ drop row_width out) ≡ closed p out
-line_closed p out outcome q shown y l n a z r e =
+line_closed p out outcome q shown y m l n a z t r e =
     let k : length (row_of outcome (reading_of q.machine.controller)) ≡ row_width = length_row _ _ in
-    sym (close p out l ∙ simp (ne_eqb _ _ n) (rw (← a, k, e, r, ← z) refl))
+    sym (close p out m l ∙ simp (ne_eqb _ _ n) (rw (← a, k, e, r, ← z, ← t) refl))

@@ -7,14 +7,12 @@ use lib.Dec.{eqb, lit≤}
 use lib.ListN.{length-replicate}
 use lib.Seq.{take-append-add, take-nil, take_at}
 use Rattle.call_line.specs.Line.{line_of}
-use Rattle.call_list.specs.declared.Machine.{Machine}
-use Rattle.call_list.specs.declared.State.{State}
-use Rattle.call_list.specs.Answer.{fresh_machine, reading_of}
-use Rattle.call_list.specs.Feed.{Run, kept, kept_of, row_width, pushed, told, ended, step, runs, finished, fresh, start_of, left, left_by, roomy, fed, closed}
+use Rattle.call_list.specs.Answer.{Machine, fresh_machine, reading_of}
+use Rattle.call_list.specs.Feed.{Between, Run, kept, kept_of, row_width, pushed, told, ended, step, runs, finished, fresh, start_of, left, left_by, roomy, fed, closed}
 use Rattle.call_list.specs.Whole.{last_line, lines_from, lines_of, answered_line, answer_row, answers_to, joined, answers}
 use Rattle.call_list.specs.Whole.{Reached, started, further, Program}
 use Rattle.call_list.specs.Whole.{ended as whole_input}
-use Rattle.call_list.proofs.KeptLines.{cut_line, kept_more}
+use Rattle.call_list.proofs.KeptLines.{cut_line, kept_more, kept_short}
 use Rattle.call_list.proofs.Laying.{length_row}
 use Rattle.call_list.proofs.Feeding.{onto, runs_onto, room_yes, close}
 
@@ -71,7 +69,7 @@ runs_append [] t r = refl
 runs_append (b ∷ s) t r = runs_append s t (step r b)
 
 -- a call that is taken leads to the run r
-record Taken (p' : State) (w : List ℕ) (r : Run) : Type 0 where
+record Taken (p' : Between) (w : List ℕ) (r : Run) : Type 0 where
   next : r ≡ onto w (start_of p')
   wrote : w ≡ r.out
 
@@ -81,9 +79,9 @@ left_is r out n e =
     let z : take n (left_by r out).out ≡ r.out = take_at r.out _ n k in
     record { next = rw (z, append-nil) refl; wrote = z }
 
-fed_is : (p : State) (c out : List ℕ) (n : ℕ) → (fed p c out).written ≡ Some n → Taken (fed p c out).state (take n (fed p c out).out) (runs (start_of p) c)
+fed_is : (p : Between) (c out : List ℕ) (n : ℕ) → (fed p c out).written ≡ Some n → Taken (fed p c out).state (take n (fed p c out).out) (runs (start_of p) c)
 unfolding fed
-fed_is p c out n e = pick (roomy (length c) out) e
+fed_is p c out n e = pick (roomy p.counted (length c) (length out)) e
   where
     pick :
         (t : Bool)
@@ -92,9 +90,9 @@ fed_is p c out n e = pick (roomy (length c) out) e
     pick true e = left_is (runs (start_of p) c) out n e
     pick false e = absurd (true≢false (sym (ap is_some e)))
 
-closed_is : (p : State) (out : List ℕ) (n : ℕ) → (closed p out).written ≡ Some n → take n (closed p out).out ≡ (finished (start_of p)).out
+closed_is : (p : Between) (out : List ℕ) (n : ℕ) → (closed p out).written ≡ Some n → take n (closed p out).out ≡ (finished (start_of p)).out
 unfolding closed
-closed_is p out n e = pick (roomy 1 out) e
+closed_is p out n e = pick (roomy p.counted 1 (length out)) e
   where
     pick :
         (t : Bool)
@@ -112,7 +110,7 @@ abbrev start : Run
 start = start_of fresh
 
 -- the chunks lead to where the program is, with what it has written
-runs_to : {cs : List (List ℕ)} {w : List ℕ} {p : State} → Reached cs w p → runs start (joined cs) ≡ onto w (start_of p)
+runs_to : {cs : List (List ℕ)} {w : List ℕ} {p : Between} → Reached cs w p → runs start (joined cs) ≡ onto w (start_of p)
 unfolding joined runs
 runs_to started = refl
 runs_to (further {chunks = cs} {w = w} {p = p} c out n x e) =
@@ -139,7 +137,7 @@ in_chunks chunks _ (whole_input {w = w} {p = p} out n x e) =
 
 -- and what is written before its end is the beginning of the answers, whatever follows
 pub so_far :
-    {chunks : List (List ℕ)} {w : List ℕ} {p : State} → Reached chunks w p
+    {chunks : List (List ℕ)} {w : List ℕ} {p : Between} → Reached chunks w p
     → (rest : List ℕ) → take (length w) (answers (joined chunks ++ rest)) ≡ w
 so_far {chunks} {w} {p} x rest =
     let r = start_of p in
@@ -148,6 +146,37 @@ so_far {chunks} {w} {p} x rest =
     ∙ ap (λ (q : Run). (finished q).out) (runs_append (joined chunks) rest start ∙ ap (λ (q : Run). runs q rest) (runs_to x) ∙ runs_onto rest r w)
     ∙ finished_onto (runs r rest) w)
     ∙ take_at w (finished (runs r rest)).out (length w) refl
+
+-- ---- the program's states are such as `feed` and `finish` take
+
+runs_short : (s : List ℕ) (r : Run) → length r.line ≤ kept → length (runs r s).line ≤ kept
+unfolding runs step
+runs_short [] r h = h
+runs_short (b ∷ s) r h = pick (runs_short s) (eqb b 10)
+  where
+    pick :
+        ((q : Run) → length q.line ≤ kept → length (runs q s).line ≤ kept)
+        → (t : Bool)
+        → length (runs (cond t (ended r) (record r { line = pushed r.line b })) s).line ≤ kept
+    pick ih true = ih (ended r) (lit≤ tt)
+    pick ih false = ih (record r { line = pushed r.line b }) (kept_short (r.line ++ (b ∷ [])))
+
+-- a line of no more bytes than are kept, all of them counted
+pub record Short (p : Between) : Type 0 where
+  pub line : length p.line ≤ kept
+  pub counted : p.counted ≤ kept
+
+fed_short : (p : Between) (c out : List ℕ) → Short p → Short (fed p c out).state
+unfolding fed
+fed_short p c out h = pick (roomy p.counted (length c) (length out))
+  where
+    pick : (t : Bool) → Short (cond t (left_by (runs (start_of p) c) out) (left None p out)).state
+    pick true = let k = runs_short c (start_of p) h.line in record { line = k; counted = k }
+    pick false = h
+
+pub reached_short : {cs : List (List ℕ)} {w : List ℕ} {p : Between} → Reached cs w p → Short p
+reached_short started = record { line = lit≤ tt; counted = lit≤ tt }
+reached_short (further {p = p} c out n x e) = fed_short p c out (reached_short x)
 
 -- ---- every list of chunks has such a run
 
@@ -160,12 +189,12 @@ room_long n = let l : length (room n) ≡ row_width * n = length-replicate (row_
 -- some run that was fed the chunks
 record Somewhere (chunks : List (List ℕ)) : Type 0 where
   w : List ℕ
-  state : State
+  state : Between
   reached : Reached chunks w state
 
 one_more : (chunks : List (List ℕ)) (c : List ℕ) → Somewhere chunks → Somewhere (chunks ++ (c ∷ []))
 one_more chunks c x =
-    let e = ap (λ l. l.written) (room_yes x.state c (room (length c)) (room_long (length c))) in
+    let e = ap (λ l. l.written) (room_yes x.state c (room (length c)) (reached_short x.reached).counted (room_long (length c))) in
     record { w = _; state = _; reached = further c (room (length c)) _ x.reached e }
 
 onward : (cs chunks : List (List ℕ)) → Somewhere chunks → Somewhere (chunks ++ cs)
@@ -176,7 +205,7 @@ onward (c ∷ cs) chunks x = rw (append_assoc chunks (c ∷ []) cs) at (onward c
 pub every_list : (chunks : List (List ℕ)) → Program chunks (answers (joined chunks))
 every_list chunks =
     let x = onward chunks [] (record { w = []; state = fresh; reached = started }) in
-    let p : Program chunks _ = whole_input (room 1) _ x.reached (ap (λ l. l.written) (close x.state (room 1) (lit≤ tt))) in
+    let p : Program chunks _ = whole_input (room 1) _ x.reached (ap (λ l. l.written) (close x.state (room 1) (reached_short x.reached).counted (lit≤ tt))) in
     rw (in_chunks chunks _ p) at p
 
 -- ---- the answer to a line hangs on the lines up to it alone

@@ -1,5 +1,5 @@
 -- What a line leaves, and its answer (document 01, "Call lists"). Definitions only.
-use Rattle.std.specs.Prelude.{ℕ, ◌+◌, Bool, true, false, if◌then◌else◌, Option, Some, None, is_some, option_map, unwrap_or, Result, Ok, Err, List, [], ◌∷◌, ◌++◌, ltb, length, get_or, drop}
+use Rattle.std.specs.Prelude.{ℕ, ◌+◌, Bool, true, false, if◌then◌else◌, Option, Some, None, is_some, option_map, unwrap_or, Result, Ok, Err, List, [], ◌∷◌, ◌++◌, ltb, get_or, take, drop}
 use Rattle.std.specs.Float.{binary64}
 use Rattle.std.specs.Float.Ieee.{to_bits}
 use Rattle.refusal.specs.Outcome.{number}
@@ -20,7 +20,8 @@ use Rattle.call_line.specs.declared.Call.TheVariants.{Estimate, Acknowledged, Al
 use Rattle.call_line.specs.declared.LineRefusal.{LineRefusal}
 use Rattle.call_line.specs.declared.LineRefusal.TheVariants.{Report as LineRefusal-as-Report, Other}
 use Rattle.call_list.specs.declared.Reading.{Reading}
-use Rattle.call_list.specs.declared.Machine.{Machine}
+use Rattle.call_list.specs.declared.Queue.{Queue}
+use Rattle.call_list.specs.declared.Machine.{Machine as MachineStruct}
 
 -- ---- what there is between two lines
 
@@ -28,19 +29,32 @@ use Rattle.call_list.specs.declared.Machine.{Machine}
 abbrev pub places : ℕ
 places = most_packets
 
+-- the packets that are queued: the first of the places, or all where more are counted
+abbrev pub packets_of : Queue → List PacketResult
+packets_of q = take q.len q.packets
+
+-- the packets that are queued, and how many are counted
+pub record Machine : Type 0 where
+  pub controller : LossController
+  pub queue : List PacketResult
+  pub queued : ℕ
+
+abbrev pub machine_of : MachineStruct → Machine
+machine_of m = record { controller = m.controller; queue = packets_of m.queue; queued = m.queue.len }
+
 -- a fresh controller and an empty queue
 abbrev pub started : Bool → Machine
-started use_bytes = record { controller = initial use_bytes; queue = record { items = [] } }
+started use_bytes = record { controller = initial use_bytes; queue = []; queued = 0 }
 
 -- "a list without it runs by bytes" (Q-7)
 abbrev pub fresh_machine : Machine
 fresh_machine = started true
 
 abbrev pub emptied : Machine → Machine
-emptied m = record m { queue = record { items = [] } }
+emptied m = record m { queue = []; queued = 0 }
 
 abbrev pub with_packet : Machine → PacketResult → Machine
-with_packet m p = record m { queue = record { items = m.queue.items ++ (p ∷ []) } }
+with_packet m p = record m { queue = m.queue ++ (p ∷ []); queued = m.queued + 1 }
 
 -- ---- a line
 
@@ -59,11 +73,11 @@ called m (Err refusal) = answered (Err refusal) m
 
 -- "12: the queue holds 4,096 packets"
 unfoldable pub packet_after : Machine → PacketResult → Answered
-packet_after m p = if ltb (length m.queue.items) places then answered (Ok tt) (with_packet m p) else answered (Err QueueFull) m
+packet_after m p = if ltb m.queued places then answered (Ok tt) (with_packet m p) else answered (Err QueueFull) m
 
 -- the report of the queue, which it empties
 abbrev pub reported : Machine → Bitrate → Answered
-reported m delay = called (emptied m) (update_records m.controller m.queue.items delay)
+reported m delay = called (emptied m) (update_records m.controller m.queue delay)
 
 -- the table's calls
 unfoldable pub call_after : Machine → Call → Answered

@@ -15,8 +15,7 @@ use Rattle.call_line.specs.Line.{call_of, checked, refused, said, line_of}
 use Rattle.call_line.specs.declared.Call.TheVariants.{Packet, Read}
 use Rattle.call_line.specs.declared.LineRefusal.TheVariants.{Other}
 use Rattle.call_list.specs.Pieces.{newline_behind, standing}
-use Rattle.call_list.specs.declared.Machine.{Machine}
-use Rattle.call_list.specs.Answer.{Answered, answered as leaves, started, call_after, after_of, reading_of, answer_widths, text_of, row_of}
+use Rattle.call_list.specs.Answer.{Machine, Answered, answered as leaves, started, call_after, after_of, reading_of, answer_widths, text_of, row_of}
 use Rattle.call_list.specs.Whole.{last_line, lines_from, lines_of, answers_to, joined, answers}
 
 -- a newline behind 48 bytes, behind 50, behind both, behind 49 and behind 51; 48 and 50 bytes without one
@@ -67,11 +66,8 @@ used use_bytes =
     record {
       controller =
           record (result_unwrap_or (set_bandwidth_estimate (initial use_bytes) (rate_of megabit)) (initial use_bytes)) { observations = cleared use_bytes 7 };
-      queue =
-          record {
-            items =
-                record { local_send_time = 7; size = 1200; lost = 0 } ∷ record { local_send_time = 8; size = 60; lost = 1 } ∷ [];
-          };
+      queue = record { local_send_time = 7; size = 1200; lost = 0 } ∷ record { local_send_time = 8; size = 60; lost = 1 } ∷ [];
+      queued = 2;
     }
 
 -- the line of kind 8 with this A and B, after a controller of either profile

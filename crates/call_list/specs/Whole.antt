@@ -1,10 +1,8 @@
 -- The whole input: its lines, and the answers to them. Definitions only.
 use Rattle.std.specs.Prelude.{ℕ, ◌≡◌, if◌then◌else◌, Some, List, [], ◌∷◌, ◌++◌, eqb, take}
 use Rattle.call_line.specs.Line.{line_of}
-use Rattle.call_list.specs.declared.Machine.{Machine}
-use Rattle.call_list.specs.declared.State.{State}
-use Rattle.call_list.specs.Answer.{Answered, fresh_machine, after_of, reading_of, row_of}
-use Rattle.call_list.specs.Feed.{fresh, fed, closed}
+use Rattle.call_list.specs.Answer.{Machine, Answered, fresh_machine, after_of, reading_of, row_of}
+use Rattle.call_list.specs.Feed.{Between, fresh, fed, closed}
 
 -- "A last line may lack its newline; empty input prints nothing": what follows the last newline is a line unless it is empty
 unfoldable pub last_line : List ℕ → List (List ℕ)
@@ -42,16 +40,16 @@ answers input = joined (answers_to fresh_machine (lines_of input))
 -- ---- the program: chunks fed one after another, and a finish
 
 -- from its start, fed the chunks by calls of `feed` that are taken, whatever their buffers hold, the program has written w; it is in the state p
-pub data Reached : List (List ℕ) → List ℕ → State → Type 0 where
+pub data Reached : List (List ℕ) → List ℕ → Between → Type 0 where
   started : Reached [] [] fresh
   further :
-      {chunks : List (List ℕ)} {w : List ℕ} {p : State} (c out : List ℕ) (n : ℕ)
+      {chunks : List (List ℕ)} {w : List ℕ} {p : Between} (c out : List ℕ) (n : ℕ)
       → Reached chunks w p → (fed p c out).written ≡ Some n
       → Reached (chunks ++ (c ∷ [])) (w ++ take n (fed p c out).out) (fed p c out).state
 
 -- and by a call of `finish` that is taken it has written all
 pub data Program : List (List ℕ) → List ℕ → Type 0 where
   ended :
-      {chunks : List (List ℕ)} {w : List ℕ} {p : State} (out : List ℕ) (n : ℕ)
+      {chunks : List (List ℕ)} {w : List ℕ} {p : Between} (out : List ℕ) (n : ℕ)
       → Reached chunks w p → (closed p out).written ≡ Some n
       → Program chunks (w ++ take n (closed p out).out)

@@ -2,7 +2,7 @@
 // lists").
 #![tactic(auto)]
 
-ghost use Rattle.std.specs.Prelude.{◌≡◌, ◌-◌, ◌*◌, ◌≤◌, ◌++◌, Ok, Some, length, take, option_map};
+ghost use Rattle.std.specs.Prelude.{◌≡◌, ◌+◌, ◌-◌, ◌*◌, ◌<◌, ◌≤◌, [], ◌∷◌, ◌++◌, Ok, Some, IfNone, not, eqb, ltb, length, drop, option_map};
 ghost use Rattle.std.specs.Float.{binary64};
 ghost use Rattle.std.specs.Float.Ieee.{to_bits};
 ghost use Rattle.refusal.specs.Outcome.{number};
@@ -15,7 +15,6 @@ ghost use Rattle.call_list.specs.Feed as Feeding;
 ghost use Rattle.call_list.specs.Pieces as Pieces;
 ghost use Rattle.call_list.specs.Feeds as Feeds;
 
-use arrayvec::ArrayVec;
 use bandwidth::Bitrate;
 use call_line::{Call, LineRefusal};
 use estimator::LossControllerState;
@@ -49,14 +48,22 @@ const TEXT: usize = INHERENT_LOSS_END + 1;
 // The bytes of an answer
 pub const ROW: usize = REFUSAL_WIDTH + TEXT;
 
-// The bytes of a line that are kept.
-pub type Line = ArrayVec<u8, KEPT>;
+// The bytes of a line that are kept: the first `len` of them, or all where it counts more.
+#[derive(Clone, Copy)]
+pub struct Line {
+    pub bytes: [u8; KEPT],
+    pub len: usize,
+}
 
-// The packets for the next report.
-pub type Queue = ArrayVec<PacketResult, PLACES>;
+// The packets for the next report: the first `len` of them, or all where it counts more.
+#[derive(Clone, Copy)]
+pub struct Queue {
+    pub packets: [PacketResult; PLACES],
+    pub len: usize,
+}
 
 // What there is between two lines.
-#[derive(Clone, Drop)]
+#[derive(Clone, Copy)]
 pub struct Machine {
     pub controller: LossController,
     pub queue: Queue,
@@ -64,7 +71,7 @@ pub struct Machine {
 
 // What is kept from chunk to chunk: the line so far, of which no more is looked at than `KEPT` bytes,
 // and what was left by the lines before it.
-#[derive(Clone, Drop)]
+#[derive(Clone, Copy)]
 pub struct State {
     pub line: Line,
     pub machine: Machine,
@@ -93,37 +100,87 @@ fn read(controller: &LossController) -> Reading
     }
 }
 
+// ---- the queue
+
+impl Queue {
+    // No packet.
+    pub fn new() -> Queue
+        ensures empty { Answers.packets_of result ≡ [] }
+        ensures counted { result.len ≡ 0 }
+    {
+        let blank = PacketResult {
+            local_send_time: 0,
+            size: 0,
+            lost: 0,
+        };
+        let packets = [blank; PLACES];
+        Queue { packets, len: 0 }
+    }
+
+    pub fn as_slice(&self) -> &[PacketResult]
+        ensures { result.now ≡ Answers.packets_of self.now }
+    {
+        &self.packets[..self.len.min(PLACES)]
+    }
+
+    fn is_full(&self) -> bool
+        ensures { result ≡ not (ltb self.now.len Answers.places) }
+    {
+        self.len >= PLACES
+    }
+
+    fn push(&mut self, packet: PacketResult)
+        requires { self.old.len < Answers.places }
+        ensures pushed { Answers.packets_of self.new ≡ Answers.packets_of self.old ++ packet ∷ [] }
+        ensures counted { self.new.len ≡ self.old.len + 1 }
+    {
+        self.packets[self.len] = packet;
+        self.len += 1;
+    }
+
+    // The packets that were queued stay in their places.
+    fn clear(&mut self)
+        ensures { self.new ≡ record self.old { len = 0 } }
+    {
+        self.len = 0;
+    }
+}
+
 // ---- a call
 
 impl Machine {
     // A list without kind 8 runs by bytes.
     fn new() -> Machine
-        ensures { result ≡ Answers.fresh_machine }
+        ensures { Answers.machine_of result ≡ Answers.fresh_machine }
     {
         Machine {
             controller: LossController::new(),
-            queue: ArrayVec::new(),
+            queue: Queue::new(),
         }
     }
 
     #[tactic(auto, unfolding(crate::specs::Answer::packet_after))]
     fn queue_packet(&mut self, packet: PacketResult) -> Result<(), Refusal>
         ensures controller { self.new.controller ≡ self.old.controller }
-        ensures answered { Answers.answered result self.new ≡ Answers.packet_after self.old packet }
+        ensures answered { Answers.answered result (Answers.machine_of self.new) ≡ Answers.packet_after (Answers.machine_of self.old) packet }
     {
-        self.queue.try_push(packet).map_err(|_| Refusal::QueueFull)
+        if self.queue.is_full() {
+            return Err(Refusal::QueueFull);
+        }
+        self.queue.push(packet);
+        Ok(())
     }
 
     // What a call of the controller answers. Refused, it leaves the controller.
     fn put(&mut self, called: Result<LossController, Refusal>) -> Result<(), Refusal>
-        ensures { Answers.answered result self.new ≡ Answers.called self.old called }
+        ensures { Answers.answered result (Answers.machine_of self.new) ≡ Answers.called (Answers.machine_of self.old) called }
     {
         self.controller = called?;
         Ok(())
     }
 
     fn report(&mut self, delay: Bitrate) -> Result<(), Refusal>
-        ensures { Answers.answered result self.new ≡ Answers.reported self.old delay }
+        ensures { Answers.answered result (Answers.machine_of self.new) ≡ Answers.reported (Answers.machine_of self.old) delay }
     {
         let called = lent::update_records(self.controller, self.queue.as_slice(), delay);
         self.queue.clear();
@@ -131,7 +188,7 @@ impl Machine {
     }
 
     fn start(&mut self, use_bytes: bool) -> Result<(), Refusal>
-        ensures { Answers.answered result self.new ≡ Answers.answered (Ok tt) (Answers.started use_bytes) }
+        ensures { Answers.answered result (Answers.machine_of self.new) ≡ Answers.answered (Ok tt) (Answers.started use_bytes) }
     {
         self.controller = LossController::with_profile(use_bytes);
         self.queue.clear();
@@ -140,7 +197,7 @@ impl Machine {
 
     #[tactic(auto, unfolding(crate::specs::Answer::call_after))]
     fn call(&mut self, call: Call) -> Result<(), Refusal>
-        ensures { Answers.answered result self.new ≡ Answers.call_after self.old call }
+        ensures { Answers.answered result (Answers.machine_of self.new) ≡ Answers.call_after (Answers.machine_of self.old) call }
     {
         let c = self.controller;
         match call {
@@ -173,7 +230,7 @@ impl Machine {
     #[tactic(auto, unfolding(crate::specs::Answer::call_after))]
     fn call_shown(&mut self, call: Call, shown: &mut Shown) -> Result<(), Refusal>
         requires { shown.old ≡ Answers.reading_of self.old.controller }
-        ensures { (Answers.answered result self.new ≡ Answers.call_after self.old call) × (shown.new ≡ Answers.reading_of self.new.controller) }
+        ensures { (Answers.answered result (Answers.machine_of self.new) ≡ Answers.call_after (Answers.machine_of self.old) call) × (shown.new ≡ Answers.reading_of self.new.controller) }
     {
         match call {
             Call::Packet { time, lost, size } => self.queue_packet(PacketResult {
@@ -193,7 +250,7 @@ impl Machine {
     // The outcome of a line, which comes without its newline.
     #[tactic(auto, unfolding(crate::specs::Answer::after_of))]
     fn take_line(&mut self, line: &[u8]) -> Result<(), Refusal>
-        ensures { Answers.answered result self.new ≡ Answers.after_of self.old (line_of line.now) }
+        ensures { Answers.answered result (Answers.machine_of self.new) ≡ Answers.after_of (Answers.machine_of self.old) (line_of line.now) }
     {
         match call_line::read_line(line) {
             Ok(call) => self.call(call),
@@ -291,25 +348,65 @@ fn newline(chunk: &[u8]) -> Option<usize>
     chunk.iter().position(|byte| *byte == b'\n')
 }
 
-// Bytes that find no room are not kept.
-fn keep(line: &mut Line, bytes: &[u8])
-    ensures short { length line.old.items ≤ Feeding.kept }
-    ensures kept { line.new.items ≡ Feeding.kept_of (line.old.items ++ bytes.now) }
-{
-    let room = line.remaining_capacity().min(bytes.len());
-    let _ = line.try_extend_from_slice(&bytes[..room]);
+impl Line {
+    // No byte.
+    pub fn new() -> Line
+        ensures empty { Feeding.bytes_of result ≡ [] }
+        ensures counted { result.len ≡ 0 }
+    {
+        let bytes = [0; KEPT];
+        Line { bytes, len: 0 }
+    }
+
+    pub fn as_slice(&self) -> &[u8]
+        ensures { result.now ≡ Feeding.bytes_of self.now }
+    {
+        &self.bytes[..self.len.min(KEPT)]
+    }
+
+    fn is_empty(&self) -> bool
+        ensures { result ≡ eqb (length (Feeding.bytes_of self.now)) 0 }
+    {
+        self.len == 0
+    }
+
+    fn clear(&mut self)
+        ensures { self.new ≡ record self.old { len = 0 } }
+    {
+        self.len = 0;
+    }
+
+    // Bytes that find no room are not kept.
+    fn extend(&mut self, bytes: &[u8])
+        ensures short { length (Feeding.bytes_of self.old) ≤ Feeding.kept }
+        ensures kept { Feeding.bytes_of self.new ≡ Feeding.kept_of (Feeding.bytes_of self.old ++ bytes.now) }
+        ensures counted { Feeding.Counted self.old → Feeding.Counted self.new }
+        ensures full { Feeding.kept ≤ self.old.len → self.new ≡ self.old }
+        ensures behind { drop self.new.len self.new.bytes ≡ drop self.new.len self.old.bytes }
+    {
+        if self.len >= KEPT {
+            return;
+        }
+        let kept = bytes.len().min(KEPT - self.len);
+        let end = self.len + kept;
+        self.bytes[self.len..end].copy_from_slice(&bytes[..kept]);
+        self.len = end;
+    }
 }
 
 // Up to the newline, or to the end of the chunk where it has none. Where the line has ended it answers
 // how much of the chunk that is, with the newline.
 #[tactic(auto, unfolding(crate::specs::Pieces::line_end, crate::specs::Pieces::kept_on))]
 pub fn read_on(line: &mut Line, chunk: &[u8]) -> Option<usize>
-    ensures short { length line.old.items ≤ Feeding.kept }
+    ensures short { length (Feeding.bytes_of line.old) ≤ Feeding.kept }
     ensures ended { result ≡ Pieces.line_end chunk.now }
-    ensures kept { line.new.items ≡ Pieces.kept_on line.old.items chunk.now }
+    ensures kept { Feeding.bytes_of line.new ≡ Pieces.kept_on (Feeding.bytes_of line.old) chunk.now }
+    ensures counted { Feeding.Counted line.old → Feeding.Counted line.new }
+    ensures full { Feeding.kept ≤ line.old.len → line.new ≡ line.old }
+    ensures behind { drop line.new.len line.new.bytes ≡ drop line.new.len line.old.bytes }
 {
     let newline = newline(chunk);
-    keep(line, &chunk[..newline.unwrap_or(chunk.len())]);
+    line.extend(&chunk[..newline.unwrap_or(chunk.len())]);
     Some(newline? + 1)
 }
 
@@ -354,18 +451,20 @@ fn whole_call(chunk: &[u8]) -> Option<(Call, usize)>
 impl State {
     // Before the first line.
     pub fn new() -> State
-        ensures { result ≡ Feeding.fresh }
+        ensures { Feeding.state_of result ≡ Feeding.fresh }
     {
         State {
-            line: ArrayVec::new(),
+            line: Line::new(),
             machine: Machine::new(),
         }
     }
 
     // The answer to the next line that ends in the chunk, and how much of the chunk that is.
     fn next_line(&mut self, chunk: &[u8], shown: &mut Shown) -> Option<(Result<(), Refusal>, usize)>
-        requires { shown.old ≡ Answers.reading_of self.old.machine.controller }
-        ensures { Feeds.Answers result self.new shown.new self.old chunk.now }
+        requires counted { Feeding.Counted self.old.line }
+        requires shown { shown.old ≡ Answers.reading_of self.old.machine.controller }
+        ensures counted { Feeding.Counted self.new.line }
+        ensures answers { Feeds.Answers result (Feeding.state_of self.new) shown.new (Feeding.state_of self.old) chunk.now }
     {
         if self.line.is_empty()
             && let Some((call, end)) = whole_call(chunk)
@@ -380,8 +479,9 @@ impl State {
     }
 
     fn feed_all(&mut self, chunk: &[u8], out: &mut [u8]) -> usize
-        requires { Feeding.row_width * length chunk.now ≤ length out.old }
-        ensures { Feeding.left (Some result) self.new out.new ≡ Feeding.left_by (Feeding.runs (Feeding.start_of self.old) chunk.now) out.old }
+        requires counted { Feeding.Counted self.old.line }
+        requires room { Feeding.row_width * length chunk.now ≤ length out.old }
+        ensures { Feeding.left (Some result) (Feeding.state_of self.new) out.new ≡ Feeding.left_by (Feeding.runs (Feeding.start_of (Feeding.state_of self.old)) chunk.now) out.old }
     {
         let mut shown = Shown::new(read(&self.machine.controller));
         let mut i = 0;
@@ -395,12 +495,16 @@ impl State {
     }
 
     // A chunk of the input, of any length, is taken whole: the answers to the lines that end in it stand
-    // at the start of out, and how long they are is answered. None, and nothing changes, where out has
-    // fewer than `ROW` bytes for each byte of the chunk.
-    #[tactic(auto, using(crate::proofs::Feeding::room_no, crate::proofs::Feeding::room_yes))]
+    // at the start of out, and how long they are is answered. None, and nothing changes, where the line
+    // counts more than `KEPT` bytes or out has fewer than `ROW` bytes for each byte of the chunk.
+    #[tactic(auto, using(crate::proofs::Feeding::line_no, crate::proofs::Feeding::room_no, crate::proofs::Feeding::room_yes))]
     pub fn feed(&mut self, chunk: &[u8], out: &mut [u8]) -> Option<usize>
-        ensures { Feeding.left result self.new out.new ≡ Feeding.fed self.old chunk.now out.old }
+        ensures left { Feeding.left result (Feeding.state_of self.new) out.new ≡ Feeding.fed (Feeding.state_of self.old) chunk.now out.old }
+        ensures unmoved { IfNone result (self.new ≡ self.old) }
     {
+        if self.line.len > KEPT {
+            return None;
+        }
         if out.len() / ROW < chunk.len() {
             return None;
         }
@@ -408,12 +512,13 @@ impl State {
     }
 
     // The end of the input: a last line that lacks its newline is answered. None, and nothing changes,
-    // where out has fewer than `ROW` bytes.
-    #[tactic(auto, using(crate::proofs::Feeding::no_close, crate::proofs::Feeding::none_closed))]
+    // where the line counts more than `KEPT` bytes or out has fewer than `ROW`.
+    #[tactic(auto, using(crate::proofs::Feeding::none_closed))]
     pub fn finish(&mut self, out: &mut [u8]) -> Option<usize>
-        ensures { Feeding.left result self.new out.new ≡ Feeding.closed self.old out.old }
+        ensures left { Feeding.left result (Feeding.state_of self.new) out.new ≡ Feeding.closed (Feeding.state_of self.old) out.old }
+        ensures unmoved { IfNone result (self.new ≡ self.old) }
     {
-        if out.len() < ROW {
+        if self.line.len > KEPT || out.len() < ROW {
             return None;
         }
         if self.line.is_empty() {

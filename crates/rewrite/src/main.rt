@@ -12,9 +12,9 @@ ghost use Rattle.rewrite.specs.Program.{Run, Rewritten};
 
 use arrayvec::ArrayVec;
 use call_line::LineRefusal;
-use call_list::{Line, REFUSAL_WIDTH};
+use call_list::{KEPT, REFUSAL_WIDTH};
 use refusal::Refusal;
-use std::io::{self, Read, Write};
+use std::io::{self, ErrorKind, Read, Write};
 use turns::{CHUNK, Program, Stop};
 
 // The most that a line is answered: a line in shape and its newline
@@ -22,6 +22,8 @@ const TEXT: usize = call_line::LINE_WIDTH + 1;
 
 // Room for the answers to a chunk, each byte of which ends at most one line
 const ROOM: usize = CHUNK * TEXT;
+
+type Line = ArrayVec<u8, KEPT>;
 
 type Texts = ArrayVec<u8, ROOM>;
 
@@ -118,6 +120,9 @@ impl Program for Rewriting {
     ghost parted = { Parted rewritten Run };
 
     fn feed<W: Write>(&mut self, chunk: &[u8], out: &mut W) -> io::Result<()> {
+        if chunk.len() > CHUNK {
+            return Err(io::Error::from(ErrorKind::InvalidInput));
+        }
         self.rewrite(chunk);
         streams::write_all(out, self.texts.as_slice())
     }

@@ -3,6 +3,7 @@ use Rattle.std.proofs.Common.{ℕ, ◌≡◌, ◌<◌, ◌≤◌, ◌+◌, List,
 use Rattle.std.proofs.KnownBytes.{Appends-nil, Appends-trans}
 use Rattle.std.proofs.Math.Seq.{take-append-add}
 use Rattle.std.proofs.lemmas.List.{take-take}
+use mathlib.Core.List.{append_assoc, append-nil}
 use lib.Seq.{length-take-le, take-length}
 use Rattle.streams.specs.Streams.{WritesAll}
 use Rattle.turns.specs.Turns.{Held, Feeds, Finishes}
@@ -22,6 +23,20 @@ part_begins all w bytes n h b =
 module _ {S : Type 0} (text : List ℕ → List ℕ) (Run : List ℕ → List ℕ → S → Type 0) where
   pub begins : (s : S) (start : Held) → Run [] [] s → Reaches text Run [] s start start
   begins s start x = record { w = []; run = x; written = Appends-nil start; beginning = λ rest. refl }
+
+  -- a chunk that is not taken leads to nothing
+  pub turned_down : (a : S) (held : Held) (c input : List ℕ) (start : Held) → Reaches text Run input a start held → Begun text Run (input ++ c) start held
+  turned_down a held c input start x = record {
+    before = input;
+    chunk = c;
+    cut = refl;
+    state = a;
+    done = x.w;
+    run = x.run;
+    part = [];
+    written = rw append-nil x.written;
+    beginning = λ rest. rw (append-nil, append_assoc) (x.beginning (c ++ rest));
+  }
 
   -- a run from a on, and what the turn hands to the write
   module _ (a : S) (held held' : Held) (bytes : List ℕ) where

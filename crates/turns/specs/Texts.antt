@@ -18,7 +18,7 @@ pub record Reaches {S : Type 0} (text : List ℕ → List ℕ) (Run : List ℕ �
   pub written : Appends start held w
   pub beginning : Begins text input w
 
--- a write failed in the turn of the chunk that ends the input so far: all that came of what was before it, `done`, was written, and a beginning of the rest
+-- the turn of the chunk that ends the input so far failed: all that came of what was before it, `done`, was written, and a beginning of the rest
 pub record Begun {S : Type 0} (text : List ℕ → List ℕ) (Run : List ℕ → List ℕ → S → Type 0) (input : List ℕ) (start held : Held) : Type 0 where
   pub before : List ℕ
   pub chunk : List ℕ

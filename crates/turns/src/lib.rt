@@ -2,7 +2,7 @@
 // and what the program does with it.
 #![tactic(auto)]
 
-ghost use Rattle.std.specs.Prelude.{◌≡◌, ℕ, ◌≤◌, List, [], length};
+ghost use Rattle.std.specs.Prelude.{◌≡◌, ℕ, List, []};
 ghost use Rattle.std.specs.declared.option.Option.{Option};
 ghost use Rattle.turns.specs.Turns.{Feeds, Finishes, Stops};
 
@@ -16,7 +16,7 @@ pub trait Program {
     // began and is the other now.
     ghost reached: { List ℕ → Self → Option (List ℕ) → Option (List ℕ) → Type 0 };
 
-    // A write failed in the turn of their last chunk.
+    // The turn of their last chunk failed.
     ghost failed: { List ℕ → Option (List ℕ) → Option (List ℕ) → Type 0 };
 
     // They are the whole input, and all that comes of it is written.
@@ -25,8 +25,8 @@ pub trait Program {
     // They are, and the last write failed.
     ghost parted: { List ℕ → Option (List ℕ) → Option (List ℕ) → Type 0 };
 
+    // A program that has room for a read alone fails where the chunk is longer.
     fn feed<W: Write>(&mut self, chunk: &[u8], out: &mut W) -> io::Result<()>
-        requires { length chunk.now ≤ 16384 }
         ensures { Feeds reached failed result self.old self.new chunk.now (W.contents out.old) (W.contents out.new) };
 
     // The end of the input.

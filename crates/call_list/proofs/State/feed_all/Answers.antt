@@ -12,14 +12,16 @@ loop-outcome-preserved c =
     let l = c.loop-outcome in
     let chunk = c.args.chunk.now in
     let z = all_left chunk l.i in
-    let t = rw z at c.in-Some.ensures in
-    let x = row_put _ _ _ _ _ _ _ l.invariant.1 _ _ _ _ t (l.w + 47 - l.w) _ (omega arith) c.put_row.ensures in (
-      omega (arith, t.within, length-drop l.i chunk, l.invariant.0),
-      rw (drop-drop c.in-Some.end l.i chunk) at x,
-    )
+    let t = rw z at c.in-Some.ensures.answers in
+    let x = row_put _ _ _ _ _ _ _ l.invariant.answered _ _ _ _ t (l.w + 47 - l.w) _ (omega arith) c.put_row.ensures in
+    record {
+      read = omega (arith, t.within, length-drop l.i chunk, l.invariant.read);
+      counted = c.next_line.ensures.counted;
+      answered = rw (drop-drop c.in-Some.end l.i chunk) at x;
+    }
 
 pub returns : goal.returns
 returns c =
     let l = c.loop-outcome in
     let z = all_left c.args.chunk.now l.i in
-    all_told _ _ _ _ _ _ _ l.invariant.1 _ (rw z at c.in_default.ensures)
+    all_told _ _ _ _ _ _ _ l.invariant.answered _ c.next_line.ensures.counted (rw z at c.in_default.ensures.answers)
