@@ -3,7 +3,7 @@ use crate::controllers::USUAL;
 use crate::reports::{Report, packets, send};
 use crate::summaries::summary_at;
 use crate::values::{LATEST, SOON, TOO_LATE};
-use crate::verdict::Tally;
+use crate::verdict::{Outcome, Tally};
 use bandwidth::Bitrate;
 use loss_controller::LossController;
 use refusal::Refusal;
@@ -12,14 +12,17 @@ use std::io;
 // ---- 2, at each call that takes a rate
 
 pub(crate) fn rates(tally: &mut Tally) -> io::Result<()> {
-    tally.rates("estimate", |start, rate| start.set_bandwidth_estimate(rate))?;
+    tally.rates(
+        "estimate",
+        |start, rate| Outcome::new(start, start.set_bandwidth_estimate(rate)),
+    )?;
     tally.rates(
         "acknowledged",
-        |start, rate| start.set_acknowledged_bitrate(rate),
+        |start, rate| Outcome::new(start, start.set_acknowledged_bitrate(rate)),
     )?;
     tally.rates(
         "link capacity",
-        |start, rate| start.set_link_capacity_estimate(Some(rate)),
+        |start, rate| Outcome::new(start, start.set_link_capacity_estimate(Some(rate))),
     )?;
     tally.rates("report with delay", |start, rate| send_with(3, start, rate))?;
     tally.rates(
@@ -28,11 +31,11 @@ pub(crate) fn rates(tally: &mut Tally) -> io::Result<()> {
     )?;
     tally.rates(
         "summary with delay",
-        |start, rate| start.update_with_summary(summary_at(SOON), rate),
+        |start, rate| Outcome::new(start, start.update_with_summary(summary_at(SOON), rate)),
     )
 }
 
-fn send_with(n: usize, start: LossController, rate: Bitrate) -> Result<LossController, Refusal> {
+fn send_with(n: usize, start: LossController, rate: Bitrate) -> Outcome {
     let report = Report {
         delay: rate.bps,
         ..packets(n)
@@ -54,15 +57,16 @@ pub(crate) fn options(tally: &mut Tally) -> io::Result<()> {
         tally.alr(start, 0, None)?;
     }
     for start in [on, off] {
-        tally.judge("ALR off", start, start.set_alr_start_time(None), None)?;
-        let answer = start.set_link_capacity_estimate(None);
-        tally.judge("no link capacity", start, answer, None)?;
+        let off = Outcome::new(start, start.set_alr_start_time(None));
+        tally.judge("ALR off", start, off, None)?;
+        let none = Outcome::new(start, start.set_link_capacity_estimate(None));
+        tally.judge("no link capacity", start, none, None)?;
     }
     Ok(())
 }
 
 impl Tally {
-    fn rates<F: Fn(LossController, Bitrate) -> Result<LossController, Refusal>>(
+    fn rates<F: Fn(LossController, Bitrate) -> Outcome>(
         &mut self,
         name: &str,
         call: F,
@@ -88,8 +92,8 @@ impl Tally {
             (0x7FF8_0000_0000_0000, None),
         ] {
             let case = format_args!("{name} {bits:016x}");
-            let answer = call(start, Bitrate::from_bits(bits));
-            self.judge(case, start, answer, expected)?;
+            let outcome = call(start, Bitrate::from_bits(bits));
+            self.judge(case, start, outcome, expected)?;
         }
         Ok(())
     }
@@ -101,6 +105,7 @@ impl Tally {
         expected: Option<Refusal>,
     ) -> io::Result<()> {
         let case = format_args!("ALR on at {time}");
-        self.judge(case, start, start.set_alr_start_time(Some(time)), expected)
+        let outcome = Outcome::new(start, start.set_alr_start_time(Some(time)));
+        self.judge(case, start, outcome, expected)
     }
 }

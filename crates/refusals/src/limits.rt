@@ -201,8 +201,8 @@ pub(crate) fn times_at_full_count(tally: &mut Tally) -> io::Result<()> {
     tally.judge("the first report", first, send(completing(3), first), None)?;
     let mut unset = full;
     unset.estimator.current_estimate.loss_limited_bandwidth = Bitrate::NEG_INFINITY;
-    let answer = send(completing(3), unset);
-    tally.judge("without an estimate", unset, answer, refused)
+    let outcome = send(completing(3), unset);
+    tally.judge("without an estimate", unset, outcome, refused)
 }
 
 // ---- a report without packets: never 10 or 11

@@ -1,9 +1,9 @@
 // Drives the refusals of the controller's calls: each code of document 01 alone, each two that one
 // report can earn together, the values on both sides of each limit. A line is a case: its name, the
 // code that it got, the code that document 01 gives it, and whether the controller is the same
-// after it, as after each refusal, which answers no other, or which of its parts changed; after a
-// call that is taken, what the controller holds. The last line counts the cases, and those that got
-// another code. All of it comes twice, by bytes and by packets.
+// after it or which of its parts changed; after a call that is taken, what the controller holds.
+// The last line counts the cases, and those that got another code or, refused, did not leave the
+// controller as it was. All of it comes twice, by bytes and by packets.
 #![tactic(auto)]
 
 mod calls;

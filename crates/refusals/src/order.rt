@@ -111,9 +111,9 @@ impl Tally {
             report = report.with_reason(*reason);
         }
         let start = self.controller(sums);
-        let answer = send(report, start);
+        let outcome = send(report, start);
         let (code, other_code) = (u8::from(first), second.map_or(0, u8::from));
         let case = format_args!("codes {code} and {other_code}");
-        self.judge(case, start, answer, Some(first))
+        self.judge(case, start, outcome, Some(first))
     }
 }

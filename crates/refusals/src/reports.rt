@@ -1,7 +1,7 @@
 // Reports of packets, how they are sent and how they are printed.
 use crate::controllers::{Sums, USUAL};
 use crate::values::{COMPLETING, DELAY, NO_FLAG, SOON, TOO_LARGE, TOO_LATE};
-use crate::verdict::Tally;
+use crate::verdict::{Outcome, Tally};
 use bandwidth::Bitrate;
 use loss_controller::LossController;
 use packets::PacketSize;
@@ -100,16 +100,19 @@ impl<T: Copy> Column<T> {
     }
 }
 
-pub(crate) fn send(report: Report, controller: LossController) -> Result<LossController, Refusal> {
+// To a controller that is lent, so that one which a refused report changes shows.
+pub(crate) fn send(report: Report, mut controller: LossController) -> Outcome {
     let times = report.times.filled();
     let sizes = report.sizes.filled();
     let flags = report.flags.filled();
-    controller.update_bandwidth_estimate(
+    let answer = lent::update_lent(
+        &mut controller,
         &times[..report.times.length.min(PLACES)],
         &sizes[..report.sizes.length.min(PLACES)],
         &flags[..report.flags.length.min(PLACES)],
         Bitrate { bps: report.delay },
-    )
+    );
+    Outcome { answer, controller }
 }
 
 impl fmt::Display for Report {

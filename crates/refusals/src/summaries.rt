@@ -1,7 +1,7 @@
 // Packets that are summed up already: codes 5, 2, 3, 10, 11, in this order.
 use crate::controllers::{FULL_BYTES, FULL_COUNT, Sums, USUAL};
 use crate::values::{COMPLETING, DELAY, LATEST, MOST_COUNT, SOON, TOO_LATE};
-use crate::verdict::Tally;
+use crate::verdict::{Outcome, Tally};
 use bandwidth::Bitrate;
 use packets::PacketResultsSummary;
 use refusal::Refusal;
@@ -31,7 +31,7 @@ pub(crate) fn summaries(tally: &mut Tally) -> io::Result<()> {
         let answer = start.update_with_summary(summary_at(time), Bitrate { bps: delay });
         let delay = float::to_bits(delay);
         let case = format_args!("{sums}, summary at {time}, delay {delay:016x}");
-        tally.judge(case, start, answer, expected)?;
+        tally.judge(case, start, Outcome::new(start, answer), expected)?;
     }
     Ok(())
 }
@@ -111,7 +111,7 @@ impl Tally {
         let case = format_args!(
             "{sums}, totals {num_packets}, {num_lost_packets}, {total_size}, {lost_size} at {last_send_time}, delay {delay:016x}"
         );
-        self.judge(case, start, answer, expected)
+        self.judge(case, start, Outcome::new(start, answer), expected)
     }
 }
 

@@ -6,6 +6,23 @@ use refusal::Refusal;
 use std::fmt;
 use std::io::{self, Stdout};
 
+// What a call answered, and the controller that it left.
+#[derive(Clone, Copy)]
+pub(crate) struct Outcome {
+    pub(crate) answer: Result<(), Refusal>,
+    pub(crate) controller: LossController,
+}
+
+impl Outcome {
+    // Of a call by value: where it is refused its caller has the controller of before.
+    pub(crate) fn new(start: LossController, answer: Result<LossController, Refusal>) -> Outcome {
+        Outcome {
+            answer: answer.map(|_| ()),
+            controller: answer.unwrap_or(start),
+        }
+    }
+}
+
 // The cases so far, the profile of the controllers that they are put to, and where they are told.
 #[derive(Drop)]
 pub(crate) struct Tally {
@@ -24,22 +41,22 @@ impl Tally {
         &mut self,
         case: impl fmt::Display + Drop,
         start: LossController,
-        answer: Result<LossController, Refusal>,
+        outcome: Outcome,
         expected: Option<Refusal>,
     ) -> io::Result<()> {
+        let Outcome { answer, controller } = outcome;
         let refusal = answer.err();
         let code = refusal::number(&answer);
         let expected_code = expected.map_or(0, u8::from);
         print!(self.out; "{case}: {code}, expected {expected_code}, ")?;
-        // A call that is refused leaves the controller as it is.
-        let controller = answer.unwrap_or(start);
-        let changes = Told(comparison::compared(start, controller));
+        let changes = comparison::compared(start, controller);
         match refusal {
-            None => println!(self.out; "{changes}; {}", Held(controller))?,
-            Some(_) => println!(self.out; "{changes}")?,
+            None => println!(self.out; "{}; {}", Told(changes), Held(controller))?,
+            Some(_) => println!(self.out; "{}", Told(changes))?,
         }
         self.cases = self.cases.wrapping_add(1);
-        if refusal != expected {
+        let is_left = refusal.is_none() || changes.is_none();
+        if refusal != expected || !is_left {
             self.mismatches = self.mismatches.wrapping_add(1);
         }
         Ok(())

@@ -26,11 +26,19 @@ struct Call {
     c: u64,
 }
 
+// The packets for the next report, in its three columns
+#[derive(Drop)]
+struct Queue {
+    times: ArrayVec<u64, PLACES>,
+    sizes: ArrayVec<PacketSize, PLACES>,
+    flags: ArrayVec<u8, PLACES>,
+}
+
 // The controller and the queue
 #[derive(Drop)]
 struct Machine {
     controller: LossController,
-    packets: ArrayVec<PacketResult, PLACES>,
+    queue: Queue,
 }
 
 fn main(rt: HostRuntime) -> io::Result<()> {
@@ -101,7 +109,7 @@ impl Machine {
     fn new() -> Machine {
         Machine {
             controller: LossController::new(),
-            packets: ArrayVec::new(),
+            queue: Queue::new(),
         }
     }
 
@@ -114,18 +122,18 @@ impl Machine {
             4 => controller.set_link_capacity_estimate(call.option(call.rate())?)?,
             5 => {
                 call.packet().check()?;
-                self.queue(call.packet())?;
+                self.queue.push(call.packet())?;
                 controller
             }
             6 => self.report(call.rate())?,
             8 => {
                 let started = call.started()?;
-                self.packets.clear();
+                self.queue.clear();
                 started
             }
             // A packet that is not asked
             9 => {
-                self.queue(call.packet())?;
+                self.queue.push(call.packet())?;
                 controller
             }
             _ => controller,
@@ -133,26 +141,38 @@ impl Machine {
         Ok(())
     }
 
-    fn queue(&mut self, packet: PacketResult) -> Result<(), Refusal> {
-        self.packets.try_push(packet).map_err(full)
-    }
-
     // A report empties the queue, refused or not.
     fn report(&mut self, delay: Bitrate) -> Result<LossController, Refusal> {
-        let mut times = ArrayVec::<u64, PLACES>::new();
-        let mut sizes = ArrayVec::<PacketSize, PLACES>::new();
-        let mut flags = ArrayVec::<u8, PLACES>::new();
-        for packet in self.packets.drain(..) {
-            times.try_push(packet.local_send_time).map_err(full)?;
-            sizes.try_push(packet.size).map_err(full)?;
-            flags.try_push(packet.lost).map_err(full)?;
-        }
-        self.controller.update_bandwidth_estimate(
-            times.as_slice(),
-            sizes.as_slice(),
-            flags.as_slice(),
+        let reported = self.controller.update_bandwidth_estimate(
+            self.queue.times.as_slice(),
+            self.queue.sizes.as_slice(),
+            self.queue.flags.as_slice(),
             delay,
-        )
+        );
+        self.queue.clear();
+        reported
+    }
+}
+
+impl Queue {
+    fn new() -> Queue {
+        Queue {
+            times: ArrayVec::new(),
+            sizes: ArrayVec::new(),
+            flags: ArrayVec::new(),
+        }
+    }
+
+    fn push(&mut self, packet: PacketResult) -> Result<(), Refusal> {
+        self.times.try_push(packet.local_send_time).map_err(full)?;
+        self.sizes.try_push(packet.size).map_err(full)?;
+        self.flags.try_push(packet.lost).map_err(full)
+    }
+
+    fn clear(&mut self) {
+        self.times.clear();
+        self.sizes.clear();
+        self.flags.clear();
     }
 }
 

@@ -13,10 +13,11 @@ use time::Timestamp;
 // The bytes of a field: sixteen digits, and a space or the newline behind them
 pub(crate) const FIELD: usize = 17;
 
-// An input that ends before has 0.
+// An input that ends before leaves the rest of the field's bytes at zero, which are no digits.
 fn field(input: &mut Stdin) -> io::Result<u64> {
-    let text = streams::read_line::<_, FIELD>(input)?;
-    Ok(text.map_or(0, |text| hexadecimal::number(&text[0..16])))
+    let mut text = [0; FIELD];
+    streams::fill(input, &mut text)?;
+    Ok(hexadecimal::number(&text[0..16]))
 }
 
 fn read_pair(input: &mut Stdin) -> io::Result<Pair> {
